@@ -1,0 +1,31 @@
+// Hexadecimal text.
+
+ghost use mathlib.Core.Path.{_≡_};
+ghost use Rattle.moves.specs.Hex.{digit-of};
+use std::fmt;
+
+/// The number that a hexadecimal digit of either case stands for.
+pub fn hex_digit(b: u8) -> Option<u8>
+    ensures { λ r. ⌜ r ≡ digit-of b ⌝ }
+{
+    match b {
+        b'0'..=b'9' => Some(b - b'0'),
+        b'a'..=b'f' => Some(b - b'a' + 10),
+        b'A'..=b'F' => Some(b - b'A' + 10),
+        _ => None,
+    }
+}
+
+/// Bytes, shown as lower-case hexadecimal digits.
+#[derive(Drop)]
+pub struct Hex<'a>(pub &'a [u8]);
+
+pub impl fmt::Display for Hex<'_> as HexDisplay {
+    fn fmt<W: fmt::Write>(&self, f: &mut fmt::Formatter<W>) -> fmt::Result {
+        for b in self.0 {
+            let b = *b;
+            write!(f, "{b:02x}")?;
+        }
+        Ok(())
+    }
+}
