@@ -1,9 +1,11 @@
 // The answer line of a command.
 
+use crate::hex::Escaped;
+use crate::hex::EscapedDisplay;
 use crate::hex::Hex;
 use crate::hex::HexDisplay;
-use keys::fault::FaultParts;
 use std::fmt;
+use summary::total::SectionTotal;
 
 #[derive(Drop)]
 pub enum Answer<'a> {
@@ -18,6 +20,46 @@ pub enum Answer<'a> {
         hash: u64,
     },
     Hash(u32),
+    /// A journal is to begin; the answer stands only once it has.
+    Ready,
+    Row(u64),
+    Entry {
+        number: u64,
+        length: u64,
+        key: Vec<u8>,
+    },
+    Value(Vec<u8>),
+    Cut {
+        gone: bool,
+        floor: u64,
+    },
+    Sections(Vec<SectionTotal>),
+}
+
+fn yes_or_no(b: bool) -> &'static str {
+    if b { "yes" } else { "no" }
+}
+
+// Sections parted by commas.
+fn show_sections<W: fmt::Write>(totals: &[SectionTotal], f: &mut fmt::Formatter<W>) -> fmt::Result {
+    let count = totals.len();
+    write!(f, "sections {count}:")?;
+    for (i, total) in totals.iter().enumerate() {
+        let SectionTotal { start, rows, cost } = *total;
+        let comma = if i == 0 { "" } else { "," };
+        write!(f, "{comma} {start} rows {rows} cost {cost}")?;
+    }
+    Ok(())
+}
+
+fn show_value<W: fmt::Write>(value: &[u8], f: &mut fmt::Formatter<W>) -> fmt::Result {
+    let length = value.len();
+    write!(f, "length {length}:")?;
+    if length > 0 {
+        let text = Escaped(value);
+        write!(f, " {text}")?;
+    }
+    Ok(())
 }
 
 pub impl fmt::Display for Answer<'_> as AnswerDisplay {
@@ -39,53 +81,22 @@ pub impl fmt::Display for Answer<'_> as AnswerDisplay {
                 let hash = *hash;
                 write!(f, "{hash:08X}")
             }
+            Answer::Ready => write!(f, "journal ready"),
+            Answer::Row(position) => write!(f, "row {position}"),
+            Answer::Entry {
+                number,
+                length,
+                key,
+            } => {
+                let digits = Hex(key.as_slice());
+                write!(f, "number {number} length {length} key {digits}")
+            }
+            Answer::Value(value) => show_value(value.as_slice(), f),
+            Answer::Cut { gone, floor } => {
+                let gone = yes_or_no(*gone);
+                write!(f, "cut {gone} floor {floor}")
+            }
+            Answer::Sections(totals) => show_sections(totals.as_slice(), f),
         }
-    }
-}
-
-// A refusal in words, by its number.
-fn words(number: u64) -> &'static str {
-    match number {
-        1 => "numbers a section outside 1 to 64",
-        2 => "the journal's limits do not suit an archive",
-        3 => "the key's width is not the journal's",
-        4 => "limits out of range, or a slice of another length",
-        5 => "a page's header is wrong",
-        6 => "a stored row is wrong",
-        7 => "the stored value is damaged",
-        8 => "a row's move number is another section's",
-        9 => "not loaded",
-        10 => "loaded already",
-        11 => "the section lies below the journal's floor",
-        12 => "no slot is free for a new section",
-        13 => "the section has all its rows",
-        14 => "the section's bytes are used up",
-        15 => "the buffer is too short",
-        16 => "no such row",
-        17 => "not a key",
-        18 => "the slot does not fit a handle",
-        19 => "the position does not fit a handle",
-        _ => "unknown",
-    }
-}
-
-/// A refusal, shown by its five parts and in words.
-#[derive(Drop)]
-pub struct Refusal(pub FaultParts);
-
-pub impl fmt::Display for Refusal as RefusalDisplay {
-    fn fmt<W: fmt::Write>(&self, f: &mut fmt::Formatter<W>) -> fmt::Result {
-        let FaultParts {
-            number,
-            layer,
-            section,
-            position,
-            amount,
-        } = self.0;
-        let words = words(number);
-        write!(
-            f,
-            "refused {number} layer {layer} section {section} position {position} amount {amount}: {words}"
-        )
     }
 }

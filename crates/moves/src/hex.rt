@@ -1,4 +1,4 @@
-// Hexadecimal text.
+// Bytes as text: hexadecimal digits, and text with what cannot be printed written out.
 
 ghost use mathlib.Core.Path.{_≡_};
 ghost use Rattle.moves.specs.Hex.{digit-of};
@@ -25,6 +25,25 @@ pub impl fmt::Display for Hex<'_> as HexDisplay {
         for b in self.0 {
             let b = *b;
             write!(f, "{b:02x}")?;
+        }
+        Ok(())
+    }
+}
+
+/// Bytes, shown as text; a byte that is no printable ASCII, and the backslash, as `\xNN`.
+#[derive(Drop)]
+pub struct Escaped<'a>(pub &'a [u8]);
+
+pub impl fmt::Display for Escaped<'_> as EscapedDisplay {
+    fn fmt<W: fmt::Write>(&self, f: &mut fmt::Formatter<W>) -> fmt::Result {
+        for b in self.0 {
+            let b = *b;
+            if b < 32 || b > 126 || b == b'\\' {
+                write!(f, "\\x{b:02x}")?;
+            } else {
+                let c = char::from(b);
+                write!(f, "{c}")?;
+            }
         }
         Ok(())
     }

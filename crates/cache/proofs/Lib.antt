@@ -1,0 +1,3 @@
+pub mod Finds
+pub mod Keeps
+pub mod Serves
