@@ -1,7 +1,7 @@
 -- The tables of memory rows as plain data.
 --   view r   the lists and numbers that the tables hold, by which all else is said
 use denote.Ref.{now}
-use Rattle.layout.specs.View.{View}
+use Rattle.memory_layout.specs.View.{View}
 use Rattle.memory.specs.declared.raw.Raw.{Raw}
 
 abbrev pub view : Raw → View

@@ -3,6 +3,6 @@
 mod raw;
 mod tables;
 
-pub use layout::record::RowRecord;
+pub use memory_layout::record::RowRecord;
 pub use tables::memory::Memory;
 pub use tables::memory::MemoryJournal;

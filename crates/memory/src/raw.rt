@@ -1,7 +1,7 @@
 // The tables of memory rows as they lie.
 
-use layout::head::Head;
-use layout::record::RowRecord;
+use memory_layout::head::Head;
+use memory_layout::record::RowRecord;
 
 /// Plain, with no condition on its fields, so that its slices can be lent to helpers.
 #[derive(Drop)]

@@ -13,7 +13,7 @@ ghost use Rattle.journal.specs.Meaning.{cost-of, row-at, rows-of, first-from};
 ghost use Rattle.journal.specs.Calls.{entry-read, entry-buffer, value-read, value-buffer};
 ghost use Rattle.journal.specs.Making.{empty};
 ghost use Rattle.journal.specs.Slots.{Absent, Ready};
-ghost use Rattle.layout.specs.View.{Well, Small, Stores, Drops, Holds, Nowhere, Vacant, AllTaken, Lies, head, free, pages, stored, room-fault, meaning-of, pruned-head};
+ghost use Rattle.memory_layout.specs.View.{Well, Small, Stores, Drops, Holds, Nowhere, Vacant, AllTaken, Lies, head, free, pages, stored, room-fault, meaning-of, pruned-head};
 ghost use Rattle.memory.specs.Tables.{view};
 
 pub mod memory;
@@ -26,8 +26,8 @@ use journal::row::Entry;
 use journal::row::Label;
 use journal::slots::below;
 use journal::slots::nearer;
-use layout::head::Head;
-use layout::record::RowRecord;
+use memory_layout::head::Head;
+use memory_layout::record::RowRecord;
 
 const FREE: Head = Head {
     start: 0,

@@ -1,9 +1,9 @@
 // The answer line of a command.
 
-use crate::hex::Escaped;
-use crate::hex::EscapedDisplay;
-use crate::hex::Hex;
-use crate::hex::HexDisplay;
+use script::text::Escaped;
+use script::text::EscapedDisplay;
+use script::text::Hex;
+use script::text::HexDisplay;
 use std::fmt;
 use summary::total::SectionTotal;
 

@@ -2,9 +2,7 @@
 
 mod answer;
 mod command;
-mod hex;
 mod refusal;
-mod script;
 mod stop;
 mod store;
 
@@ -18,7 +16,6 @@ use command::Misread;
 use command::MisreadDisplay;
 use command::Question;
 use command::ReadCommand;
-use hex::hex_digit;
 use journal::Journal;
 use journal::limits::NOTHING;
 use journal::row::Label;
@@ -33,9 +30,10 @@ use memory::Memory;
 use memory::MemoryJournal;
 use refusal::Refusal;
 use refusal::RefusalDisplay;
-use script::Counts;
-use script::Line;
-use script::Script;
+use script::input::Counts;
+use script::input::Line;
+use script::input::Script;
+use script::text::hex_digit;
 use std::alloc::Global;
 use std::io;
 use std::io::BufReader;

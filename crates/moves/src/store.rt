@@ -5,7 +5,7 @@ use crate::stop::StopFromAllocError;
 use crate::stop::StopFromJournalFault;
 use journal::limits::Limits;
 use memory::Memory;
-use memory::record::RowRecord;
+use memory::RowRecord;
 use std::alloc::Global;
 
 #[derive(Drop)]

@@ -5,7 +5,7 @@ ghost use Prim.Native.Nat.{ℕ, _+_, _*_, _<_, _≤_};
 ghost use lib.ListN.{length};
 ghost use denote.Ref.{now};
 ghost use Rattle.journal.specs.Making.{checked, made, empty};
-ghost use Rattle.layout.specs.View.{Well, meaning-of, Counts, Costs, Bounded, Begins, Ends, Apart, Above, Starts};
+ghost use Rattle.memory_layout.specs.View.{Well, meaning-of, Counts, Costs, Bounded, Begins, Ends, Apart, Above, Starts};
 ghost use Rattle.memory.specs.Tables.{view};
 ghost use Rattle.memory.specs.Start.{startable, start-fault};
 use crate::raw::Raw;
@@ -15,7 +15,7 @@ use journal::limits::Limits;
 use journal::limits::NOTHING;
 use journal::row::Entry;
 use journal::row::Label;
-use layout::record::RowRecord;
+use memory_layout::record::RowRecord;
 
 /// A journal in two slices, one of records and one of bytes. Which row lies where is its own affair.
 #[derive(Drop)]

@@ -1,6 +1,6 @@
 use native.Mathlib.Omega.{arith}
 use Rattle.memory.specs.Tables.{view}
-use Rattle.layout.proofs.Appends.{ready-found, ready-vacant, none-free}
+use Rattle.memory_layout.proofs.Appends.{ready-found, ready-vacant, none-free}
 use Rattle.memory.proofs.raw.Raw.append.Needs as need
 
 pub push-requires : need.push-requires

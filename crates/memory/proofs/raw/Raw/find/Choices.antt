@@ -1,7 +1,7 @@
 use Prim.Native.Nat.{ℕ, _<_}
 use mathlib.Core.Path.{_≡_}
 use lib.ListN.{getD}
-use Rattle.layout.specs.View.{free}
+use Rattle.memory_layout.specs.View.{free}
 use Rattle.memory.proofs.raw.Raw.find.Given as given
 
 abbrev pub Inv-loop-s : given.InvT-loop-s

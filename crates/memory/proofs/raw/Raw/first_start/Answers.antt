@@ -5,9 +5,9 @@ use native.Mathlib.Omega.{arith}
 use Rattle.std.specs.declared.option.Option.{Option}
 use Rattle.journal.specs.Slots.{nearest, first-of}
 use Rattle.journal.proofs.Search.{first-is}
-use Rattle.layout.specs.View.{head, pages}
+use Rattle.memory_layout.specs.View.{head, pages}
 use Rattle.memory.specs.Tables.{view}
-use Rattle.layout.proofs.Seen.{rows-length, distinct}
+use Rattle.memory_layout.proofs.Seen.{rows-length, distinct}
 use Rattle.memory.proofs.raw.Raw.first_start.Needs as need
 
 pub loop-s-again : need.loop-s-again

@@ -1,6 +1,6 @@
 use mathlib.Core.Path.{_≡_}
 use Rattle.journal.specs.Slots.{first-of}
-use Rattle.layout.specs.View.{pages}
+use Rattle.memory_layout.specs.View.{pages}
 use Rattle.memory.specs.Tables.{view}
 use Rattle.memory.proofs.raw.Raw.first_start.Given as given
 

@@ -1,5 +1,5 @@
 use mathlib.Core.Path.{refl}
-use Rattle.layout.proofs.Fresh.{fresh-well, fresh-means}
+use Rattle.memory_layout.proofs.Fresh.{fresh-well, fresh-means}
 use Rattle.memory.proofs.raw.Raw.fresh.Needs as need
 
 pub returns : need.returns

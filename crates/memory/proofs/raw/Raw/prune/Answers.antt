@@ -3,9 +3,9 @@ use Prim.Native.Nat.{ℕ, max}
 use native.Mathlib.Omega.{arith}
 use lib.ListN.{set, getD, length-set}
 use Rattle.journal.specs.Slots.{gone-of}
-use Rattle.layout.specs.View.{View, free, pages, with-heads}
+use Rattle.memory_layout.specs.View.{View, free, pages, with-heads}
 use Rattle.memory.specs.Tables.{view}
-use Rattle.layout.proofs.Prune.{drops, heads-step, gone-step}
+use Rattle.memory_layout.proofs.Prune.{drops, heads-step, gone-step}
 use Rattle.memory.proofs.raw.Raw.prune.Needs as need
 
 pub loop-s-again : need.loop-s-again

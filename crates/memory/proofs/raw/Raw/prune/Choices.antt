@@ -2,7 +2,7 @@ use mathlib.Core.Path.{_≡_}
 use Prim.Native.Nat.{ℕ, _<_, _≤_}
 use lib.ListN.{length, getD}
 use Rattle.journal.specs.Slots.{gone-of}
-use Rattle.layout.specs.View.{free, pages, pruned-head, with-heads}
+use Rattle.memory_layout.specs.View.{free, pages, pruned-head, with-heads}
 use Rattle.memory.specs.Tables.{view}
 use Rattle.memory.proofs.raw.Raw.prune.Given as given
 

@@ -1,7 +1,7 @@
 use mathlib.Core.Path.{refl, sym, _∙_}
 use native.Mathlib.Omega.{arith}
 use Rattle.memory.specs.Tables.{view}
-use Rattle.layout.proofs.Appends.{full, has-place, takes}
+use Rattle.memory_layout.proofs.Appends.{full, has-place, takes}
 use Rattle.memory.proofs.raw.Raw.push.Needs as need
 
 pub store-requires : need.store-requires

@@ -1,7 +1,7 @@
 use native.Mathlib.Omega.{arith}
 use lib.ListN.{length}
 use Rattle.memory.specs.Tables.{view}
-use Rattle.layout.proofs.Reading.{entry-ok, entry-put}
+use Rattle.memory_layout.proofs.Reading.{entry-ok, entry-put}
 use Rattle.memory.proofs.raw.Raw.read_entry.Needs as need
 
 pub returns-else-key-width : need.returns-else-key-width

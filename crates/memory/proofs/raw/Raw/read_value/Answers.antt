@@ -1,7 +1,7 @@
 use native.Mathlib.Omega.{arith}
 use lib.ListN.{length}
 use Rattle.memory.specs.Tables.{view}
-use Rattle.layout.proofs.Reading.{value-short, value-kept, value-ok, value-put}
+use Rattle.memory_layout.proofs.Reading.{value-short, value-kept, value-ok, value-put}
 use Rattle.memory.proofs.raw.Raw.read_value.Needs as need
 
 pub returns-then-value-row : need.returns-then-value-row

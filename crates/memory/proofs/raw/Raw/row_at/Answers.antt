@@ -1,7 +1,7 @@
 use native.Mathlib.Omega.{arith}
 use Rattle.memory.specs.Tables.{view}
-use Rattle.layout.proofs.Room.{row-within, record-within}
-use Rattle.layout.proofs.Seen.{row-found, row-past, row-none}
+use Rattle.memory_layout.proofs.Room.{row-within, record-within}
+use Rattle.memory_layout.proofs.Seen.{row-found, row-past, row-none}
 use Rattle.memory.proofs.raw.Raw.row_at.Needs as need
 
 pub index-self-place : need.index-self-place

@@ -1,7 +1,7 @@
 use mathlib.Core.Path.{sym, ap, _∙_}
 use lib.ListN.{length}
 use Rattle.memory.specs.Tables.{view}
-use Rattle.layout.proofs.Seen.{found, missing, rows-length}
+use Rattle.memory_layout.proofs.Seen.{found, missing, rows-length}
 use Rattle.memory.proofs.raw.Raw.row_count.Needs as need
 
 pub returns-in-Some : need.returns-in-Some

@@ -1,7 +1,7 @@
 use native.Mathlib.Omega.{arith}
 use lib.ListN.{length}
 use Rattle.memory.specs.Tables.{view}
-use Rattle.layout.proofs.Room.{next-fits, row-fits}
+use Rattle.memory_layout.proofs.Room.{next-fits, row-fits}
 use Rattle.memory.proofs.raw.Raw.store.Needs as need
 
 pub write-requires : need.write-requires

@@ -1,6 +1,6 @@
 use Prim.Native.Nat.{ℕ, _<_}
 use lib.ListN.{getD}
-use Rattle.layout.specs.View.{free}
+use Rattle.memory_layout.specs.View.{free}
 use Rattle.memory.proofs.raw.Raw.vacant.Given as given
 
 abbrev pub Inv-loop-s : given.InvT-loop-s

@@ -1,6 +1,6 @@
 use mathlib.Core.Path.{refl}
 use Rattle.memory.specs.Tables.{view}
-use Rattle.layout.proofs.Seen.{lawful}
+use Rattle.memory_layout.proofs.Seen.{lawful}
 use Rattle.memory.proofs.tables.memory.MemoryJournal.limits.Needs as need
 
 pub returns : need.returns

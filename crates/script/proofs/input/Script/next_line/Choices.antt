@@ -1,5 +1,5 @@
 use mathlib.Core.Path.{_≡_}
-use Rattle.moves.proofs.script.Script.next_line.Given as given
+use Rattle.script.proofs.input.Script.next_line.Given as given
 
 abbrev pub Inv-loop : given.InvT-loop
 Inv-loop l = l .self .counts ≡ l .entry .self .counts

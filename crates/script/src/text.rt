@@ -1,7 +1,7 @@
 // Bytes as text: hexadecimal digits, and text with what cannot be printed written out.
 
 ghost use mathlib.Core.Path.{_≡_};
-ghost use Rattle.moves.specs.Hex.{digit-of};
+ghost use Rattle.script.specs.Hex.{digit-of};
 use std::fmt;
 
 /// The number that a hexadecimal digit of either case stands for.

@@ -1,0 +1,4 @@
+// What programs over scripts share: the lines of the input, and bytes as text.
+
+pub mod input;
+pub mod text;
