@@ -9,5 +9,5 @@ pub fn worked_cases() -> usize
     ensures hold { λ _. ⌜ All-hold worked ⌝ }
     ensures count { λ r. ⌜ r ≡ length worked ⌝ }
 {
-    6
+    8
 }
