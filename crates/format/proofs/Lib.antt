@@ -1,0 +1,12 @@
+pub mod Numbers
+pub mod Bytes
+pub mod Rows
+pub mod Firsts
+pub mod Grow
+pub mod Mounting
+pub mod Slots
+pub mod Meanings
+pub mod Appends
+pub mod Prunes
+pub mod Reading
+pub mod Makes

@@ -1,0 +1,6 @@
+use native.Mathlib.Omega.{arith}
+use Rattle.format.proofs.Slots.{page-ends}
+use Rattle.pages.proofs.layout.free_page.Needs as need
+
+pub write-requires : need.write-requires
+write-requires c κs = rw (c .page-size .ensures) (omega (arith, page-ends (c .args .limits) (c .args .entries .now) (c .pre .laid) (c .args .slot) (c .pre .slot)))

@@ -1,0 +1,3 @@
+pub mod Raws
+pub mod Journals
+pub mod Lengths
