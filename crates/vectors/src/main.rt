@@ -1,5 +1,5 @@
 // Vectors from outside, run through the library: published FNV-1a 32 values of short texts, and container numbers
-// under owner codes in use, whose check digits a separate program reckoned (the first is the standard's own example).
+// under owner codes in use, whose check digits a separate program reckoned (the first is the example commonly given).
 // Each line of standard input is a kind and a text, and the expected output has the answers from outside.
 
 use keys::box_number::BoxNumberKey;
