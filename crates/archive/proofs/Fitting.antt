@@ -1,5 +1,5 @@
 -- What an archive that fits knows once it is loaded. Assumes nothing.
-use Rattle.std.proofs.Common.{◌≡◌, ℕ, true, List, is_some, Some, None, Option, sym, refl, ap, ◌∙◌, subst}
+use Rattle.std.proofs.Common.{◌≡◌, ℕ, true, List, is_some, Some, None, Option, sym, refl, subst}
 use Rattle.std.proofs.lemmas.Bool.{both_ways}
 use Rattle.journal.specs.Meaning as journal
 use Rattle.journal.specs.Meaning.{Meaning}

@@ -6,7 +6,7 @@
 --               the one that next gives, and the translator is the same
 --   Tells       a call that changes nothing at all
 -- An answer is a result together with the buffer afterwards, where there is one.
-use Rattle.std.specs.Prelude.{◌≡◌, ℕ, List, Option}
+use Rattle.std.specs.Prelude.{◌≡◌, ℕ, List}
 use Rattle.journal.specs.Meaning.{Meaning, Lawful}
 use Rattle.rules.specs.State.{State}
 use Rattle.index.specs.Slots.{views}

@@ -28,9 +28,9 @@ pub struct Archive<J, T, K> {
 impl<J: Journal, T: Translator, K: Key> Archive<J, T, K> {
     /// An archive that is not loaded, over a journal of any meaning.
     pub(crate) fn new(journal: J, translator: T) -> Archive<J, T, K>
-        ensures state { state_of meaning result ≡ new (meaning journal) }
+        ensures state { state_of J.meaning result ≡ new (J.meaning journal) }
         ensures parts { (result.journal ≡ journal) × (result.translator ≡ translator) }
-        ensures fit { (o : past) → fits o journal → Fits fits meaning translated hashed width o result }
+        ensures fit { (o : J.past) → J.fits o journal → Fits J.fits J.meaning T.translated T.hashed K.width o result }
     {
         // To ask a journal for its limits is to learn that it is lawful.
         let _ = journal.limits();

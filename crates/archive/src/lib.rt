@@ -1,4 +1,5 @@
 // The move archive: records by number and by key over any journal, with tables that index what it keeps.
+#![tactic(auto)]
 
 pub mod archive;
 mod listing;

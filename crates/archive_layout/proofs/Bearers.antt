@@ -1,5 +1,5 @@
 -- A row read and held against a key. Assumes nothing.
-use Rattle.std.proofs.Common.{◌≡◌, ℕ, ◌-◌, ◌≤◌, Bool, true, false, cond, ◌&&◌, ltb, ◌⊎◌, List, ◌++◌, length, take, drop, Some, None, Ok, Option, sym, refl, ap, ◌∙◌, subst, inl, inr, arith}
+use Rattle.std.proofs.Common.{◌≡◌, ℕ, true, false, cond, ◌&&◌, ◌⊎◌, List, ◌++◌, length, take, drop, Some, None, Ok, Option, sym, ap, ◌∙◌, inl, inr, arith}
 use Rattle.std.proofs.lemmas.List.{take_at}
 use Rattle.std.proofs.lemmas.Bool.{cond-true, cond-false, cases_Bool, le-ltb}
 use Rattle.journal.specs.declared.row.Entry.{Entry}
@@ -7,7 +7,7 @@ use Rattle.journal.specs.Meaning.{Meaning, Row, Lawful, row_at}
 use Rattle.journal.specs.Calls.{entry_of, entry_fill, entry_read, entry_buffer}
 use Rattle.journal.proofs.Rows.{entry_found, key_width}
 use Rattle.rules.specs.declared.answer.Place.{Place}
-use Rattle.rules.specs.State.{same_bytes, bears_key, place_of}
+use Rattle.rules.specs.State.{same_bytes}
 use Rattle.law.proofs.Tests.{same_as, as_same}
 use Rattle.archive_layout.specs.Walks.{filed_at}
 use Rattle.archive_layout.specs.Keys.{is_after, is_behind, sought, lower}

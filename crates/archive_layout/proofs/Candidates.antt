@@ -1,9 +1,9 @@
 -- The records that share a translated key, counted slot by slot. Assumes nothing.
-use Rattle.std.proofs.Common.{◌≡◌, ℕ, zero, suc, ◌+◌, ◌-◌, ◌%◌, ◌^◌, ◌<◌, ◌≤◌, Bool, true, false, cond, eqb, ◌⊎◌, List, [], ◌∷◌, ◌++◌, length, Some, None, Option, sym, refl, ap, ◌∙◌, subst, inl, inr, ⊎_elim, arith, length-append}
+use Rattle.std.proofs.Common.{◌≡◌, ℕ, zero, suc, ◌+◌, ◌-◌, ◌%◌, ◌^◌, ◌<◌, ◌≤◌, Bool, true, false, cond, ◌⊎◌, List, [], ◌∷◌, length, Some, None, Option, sym, refl, ap, ◌∙◌, inl, inr, arith, length-append}
 use Rattle.std.specs.List.{slice_get}
-use Rattle.std.proofs.lemmas.Bool.{cond-true, cond-false, cases_Bool, cases_lt, eq-eqb, eqb-true, both_ways}
+use Rattle.std.proofs.lemmas.Bool.{cond-true, cond-false, cases_Bool, eq-eqb, eqb-true, both_ways}
 use Rattle.journal.specs.Meaning.{Meaning, Section, Row, Lawful}
-use Rattle.rules.specs.State.{Kind, Record, filed, records_of, those, is_candidate}
+use Rattle.rules.specs.State.{Kind, filed, records_of, those, is_candidate}
 use Rattle.law.proofs.Lists.{those-++}
 use Rattle.index_layout.specs.Views.{View, Apart}
 use Rattle.index_layout.specs.Held.{total}

@@ -1,20 +1,19 @@
 -- Walks along the records that bear a number, and what is found at a place. Assumes nothing.
-use Rattle.std.proofs.Common.{◌≡◌, ℕ, zero, suc, ◌+◌, ◌-◌, ◌<◌, ◌≤◌, Bool, true, false, cond, ◌&&◌, eqb, leb, ◌⊎◌, List, [], ◌∷◌, ◌++◌, length, drop, Some, None, Option, sym, refl, ap, ◌∙◌, subst, inl, inr, append_assoc, append-nil, arith}
+use Rattle.std.proofs.Common.{◌≡◌, ℕ, suc, ◌+◌, ◌-◌, ◌<◌, ◌≤◌, Bool, true, false, cond, eqb, ◌⊎◌, List, [], ◌∷◌, ◌++◌, length, Some, None, Option, sym, refl, ap, ◌∙◌, subst, inl, inr, append_assoc, append-nil, arith}
 use Rattle.std.specs.List.{slice_get, AllByRecursion}
-use Rattle.std.proofs.lemmas.Bool.{cond-true, cond-false, cases_Bool, cases_lt, eq-eqb, eqb-true, ne_eqb, and_parts, and_from, and_left, and_right, le-leb, both_ways}
-use Rattle.journal.specs.Meaning.{Meaning, Section, Row, rows_of, row_at, Rising, Lawful}
-use Rattle.journal.proofs.Rows.{rows_below}
+use Rattle.std.proofs.lemmas.Bool.{cond-true, cases_Bool, cases_lt, eq-eqb, eqb-true, ne_eqb, and_parts, and_from, and_left, and_right, le-leb}
+use Rattle.journal.specs.Meaning.{Meaning, Row, rows_of, row_at, Lawful}
 use Rattle.rules.specs.declared.answer.Place.{Place}
-use Rattle.rules.specs.State.{Record, section_of, number_of, place_of, filed, records_of, those, some_in, same_bytes, bears_number, bears_key, bears_both, lies_at, put_by_number, by_number, places_of}
+use Rattle.rules.specs.State.{Record, section_of, number_of, filed, records_of, those, some_in, same_bytes, bears_number, bears_key, bears_both, lies_at, put_by_number, by_number}
 use Rattle.rules.specs.Calls.{Among}
-use Rattle.law.proofs.Lists.{those_yes, those_no, those-++, those_under, those_among, among_either}
+use Rattle.law.proofs.Lists.{those_yes, those_no, those-++, those_under, those_among}
 use Rattle.index_layout.specs.Views.{View, first_in, next_in}
 use Rattle.index_layout.specs.Held.{found}
 use Rattle.law.proofs.Arrivals.{starts_records}
 use Rattle.law.proofs.Same.{own}
 use Rattle.archive_layout.specs.Fit.{Coding, Homed, Fit}
-use Rattle.archive_layout.specs.Walks.{filed_at, rest, from_link, WalksNumber}
-use Rattle.archive_layout.proofs.Rests.{nth_there, nth_past, rest_yes, rest_no, rest_skip, rest_past}
+use Rattle.archive_layout.specs.Walks.{filed_at, rest, WalksNumber}
+use Rattle.archive_layout.proofs.Rests.{nth_past, rest_yes, rest_no, rest_skip, rest_past}
 use Rattle.archive_layout.proofs.Numbers.{homed_records, Leads, at_home, none_bears, some_bears, none_next, some_next}
 
 some_same : (q p : ℕ) → ◌≡◌ {A = Option ℕ} (Some q) (Some p) → q ≡ p

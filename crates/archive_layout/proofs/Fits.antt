@@ -1,5 +1,5 @@
 -- What keeps an index fitting the sections of a journal. Assumes nothing.
-use Rattle.std.proofs.Common.{◌≡◌, ℕ, ◌+◌, ◌-◌, ◌*◌, ◌/◌, ◌<◌, ◌≤◌, Bool, true, false, cond, ◌&&◌, ◌||◌, eqb, ltb, leb, ◌⊎◌, List, [], ◌∷◌, ◌++◌, map, length, Some, None, Ok, Err, Option, Result, sym, refl, ap, ◌∙◌, subst, inl, inr, ⊎_elim, div-mul-le_self, arith}
+use Rattle.std.proofs.Common.{◌≡◌, ℕ, ◌+◌, ◌-◌, ◌*◌, ◌/◌, ◌<◌, ◌≤◌, Bool, true, false, cond, ◌||◌, eqb, ltb, ◌⊎◌, List, [], ◌∷◌, ◌++◌, map, length, Some, None, Ok, Err, Option, sym, refl, ap, ◌∙◌, subst, inl, inr, ⊎_elim, div-mul-le_self, arith}
 use native.Mathlib.Nat.{lt-div-mul-add}
 use Rattle.std.specs.List.{AllByRecursion}
 use Rattle.std.proofs.ByRecursion.{All-push}
@@ -8,16 +8,16 @@ use Rattle.std.proofs.lemmas.Bool.{cond-true, cond-false, cond_both, cases_Bool,
 use Rattle.journal.specs.declared.limits.Limits.{Limits}
 use Rattle.journal.specs.declared.row.Label.{Label}
 use Rattle.journal.specs.declared.fault.JournalFault.{JournalFault}
-use Rattle.journal.specs.Meaning.{Meaning, Section, Row, rows_of, is_kept, Rising, Within, Lawful}
+use Rattle.journal.specs.Meaning.{Meaning, Section, Row, rows_of, is_kept, Within, Lawful}
 use Rattle.journal.specs.Calls.{no_slot, extended, opened, placed, kept_from, pruned, appended, append_fault, append_answer, or_keep, or_fault, new_row, with_row}
 use Rattle.journal.proofs.Rows.{rows_placed_same, rows_placed_other, rows_kept_from, rows_gone}
-use Rattle.journal.proofs.Laws.{accepted, Accepted}
+use Rattle.journal.proofs.Laws.{accepted}
 use Rattle.rules.specs.State.{section_of}
 use Rattle.rules.specs.Calls.{archive_limits}
-use Rattle.index_layout.specs.Views.{View, free_view, open_view, grown, takes, bucket_of, Apart, kept_view}
+use Rattle.index_layout.specs.Views.{View, free_view, grown, takes, bucket_of, Apart, kept_view}
 use Rattle.index_layout.specs.Held.{found, total, one, begun, has_room, Noted}
 use Rattle.index_layout.proofs.Held.{found_kept}
-use Rattle.archive_layout.specs.Fit.{Coding, expected, full_view, offset_of, code_of, bucket_by, Agree, Homed, Fit}
+use Rattle.archive_layout.specs.Fit.{Coding, expected, offset_of, code_of, bucket_by, Agree, Homed, Fit}
 use Rattle.archive_layout.proofs.Sums.{totals, sums, SomeRows, expected_some}
 
 alike : (u : Bool) (s : ℕ) (a a' b b' c c' : List ℕ) → a ≡ a' → b ≡ b' → c ≡ c'

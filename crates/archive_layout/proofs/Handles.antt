@@ -1,9 +1,8 @@
 -- Candidates named by handles, one after another. Assumes nothing.
-use Rattle.std.proofs.Common.{◌≡◌, ℕ, ◌+◌, ◌*◌, ◌/◌, ◌%◌, ◌^◌, ◌<◌, ◌≤◌, true, List, length, IfSome, Some, None, Option, sym, refl, ap, ◌∙◌, subst, arith}
+use Rattle.std.proofs.Common.{◌≡◌, ℕ, ◌+◌, ◌*◌, ◌/◌, ◌%◌, ◌^◌, ◌<◌, ◌≤◌, List, length, IfSome, Some, None, Option, sym, refl, ap, ◌∙◌, subst, arith}
 use Rattle.index_layout.specs.Views.{View, bucket_of, newest_in, older_in, view_at}
 use Rattle.index_layout.specs.Held.{in_slot}
-use Rattle.archive_layout.specs.Walks.{below_link}
-use Rattle.archive_layout.specs.Keys.{coded_at, in_place, Handled, HandledAt, Steps}
+use Rattle.archive_layout.specs.Keys.{in_place, Handled, HandledAt, Steps}
 use Rattle.archive_layout.proofs.Keys.{newest_steps, older_steps}
 
 -- A handle in the slot i.

@@ -1,11 +1,11 @@
 -- The bearers of a key, found by the index. Assumes nothing.
-use Rattle.std.proofs.Common.{◌≡◌, ℕ, zero, suc, ◌+◌, ◌<◌, ◌≤◌, Bool, true, false, cond, ◌&&◌, eqb, ltb, ◌⊎◌, List, [], ◌∷◌, map, length, get_or, drop, Some, None, Option, sym, refl, ap, ◌∙◌, subst, inl, inr, arith}
+use Rattle.std.proofs.Common.{◌≡◌, ℕ, ◌+◌, ◌<◌, Bool, true, false, cond, eqb, List, length, get_or, Some, None, Option, sym, refl, ap, ◌∙◌, subst, arith}
 use Rattle.std.specs.List.{slice_get}
 use Rattle.std.proofs.lemmas.List.{length-map}
-use Rattle.std.proofs.lemmas.Bool.{cond-true, cond-false, eq-eqb, eqb-true, and_parts, and_from, lt-ltb}
+use Rattle.std.proofs.lemmas.Bool.{cond-true, eq-eqb, eqb-true, and_parts, and_from, lt-ltb}
 use Rattle.journal.specs.Meaning.{Meaning, Row}
 use Rattle.rules.specs.declared.answer.Place.{Place}
-use Rattle.rules.specs.State.{Record, place_of, filed, those, same_bytes, bears_key}
+use Rattle.rules.specs.State.{Record, place_of, bears_key}
 use Rattle.law.proofs.Tests.{as_same}
 use Rattle.index_layout.specs.Links.{linked, matching}
 use Rattle.index_layout.specs.Views.{View, bucket_of, newest_in, older_in}
@@ -14,9 +14,9 @@ use Rattle.archive_layout.specs.Fit.{Coding, full_view, code_of, bucket_by}
 use Rattle.archive_layout.specs.Walks.{filed_at, rest, below_link}
 use Rattle.archive_layout.specs.Keys.{is_behind, sought, least, place_in, lower, coded_at, Steps, Coded}
 use Rattle.archive_layout.proofs.Places.{matching_is, last_place, last_none, last_some}
-use Rattle.archive_layout.proofs.Rests.{nth_there, rest_yes, rest_no, rest_skip, rest_past}
+use Rattle.archive_layout.proofs.Rests.{rest_yes, rest_no, rest_skip}
 use Rattle.archive_layout.proofs.Numbers.{get_or_row}
-use Rattle.archive_layout.proofs.Least.{least_more, lower_record, lower_place}
+use Rattle.archive_layout.proofs.Least.{least_more, lower_place}
 
 -- What a walk of the candidates comes to next, by the index alone.
 module _ (v : View) (c h : ℕ) where

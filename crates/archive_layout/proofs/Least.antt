@@ -1,7 +1,6 @@
 -- The first record in the order of a listing. Assumes nothing.
-use Rattle.std.proofs.Common.{◌≡◌, ℕ, ◌<◌, ◌≤◌, Bool, true, false, cond, leb, ◌⊎◌, List, [], ◌∷◌, ◌++◌, Some, None, Option, sym, refl, ap, ◌∙◌, subst, inl, inr, arith}
+use Rattle.std.proofs.Common.{◌≡◌, ℕ, ◌≤◌, Bool, true, false, cond, leb, List, [], ◌∷◌, ◌++◌, Some, None, Option, sym, refl, ap, ◌∙◌, inl, inr, arith}
 use Rattle.std.proofs.lemmas.Bool.{cond-true, cond-false, le-leb}
-use Rattle.rules.specs.declared.answer.Place.{Place}
 use Rattle.rules.specs.State.{Record, number_of, place_of, put_by_number, by_number}
 use Rattle.rules.specs.Calls.{Among}
 use Rattle.archive_layout.specs.Keys.{front, least, place_in, lower}

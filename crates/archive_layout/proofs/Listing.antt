@@ -1,17 +1,16 @@
 -- A listing by key, place after place: each is the first behind the one before it. Assumes nothing.
-use Rattle.std.proofs.Common.{◌≡◌, ℕ, zero, suc, ◌+◌, ◌-◌, ◌<◌, ◌≤◌, Bool, true, false, ◌&&◌, ◌||◌, eqb, ltb, ◌⊎◌, List, [], ◌∷◌, ◌++◌, length, take, drop, set, Some, None, Option, sym, refl, ap, ◌∙◌, subst, inl, inr, arith, length-drop}
+use Rattle.std.proofs.Common.{◌≡◌, ℕ, zero, suc, ◌+◌, ◌-◌, ◌<◌, ◌≤◌, Bool, true, false, ◌&&◌, eqb, ltb, ◌⊎◌, List, [], ◌∷◌, ◌++◌, length, take, drop, set, Some, None, Option, sym, refl, ap, ◌∙◌, subst, inl, inr, arith, length-drop}
 use Rattle.std.proofs.lemmas.List.{take_more_set}
-use Rattle.std.specs.List.{AllByRecursion}
 use Rattle.std.proofs.lemmas.Bool.{ltb-true, lt-ltb, eqb-true, eq-eqb, and_parts, and_from, or_cases, or_left, or_right}
 use Rattle.journal.specs.Meaning as journal
 use Rattle.journal.specs.Meaning.{Section, Row}
 use Rattle.rules.specs.declared.answer.Place.{Place}
-use Rattle.rules.specs.State.{Record, section_of, number_of, place_of, records_of, those, bears_key, by_number, places_of}
+use Rattle.rules.specs.State.{Record, number_of, place_of, records_of, those, bears_key, by_number, places_of}
 use Rattle.rules.specs.Calls.{Among}
 use Rattle.rules.specs.Told.{Before, RisingFrom, Rising, Lists}
-use Rattle.law.proofs.Lists.{Decided, those_same}
+use Rattle.law.proofs.Lists.{those_same}
 use Rattle.law.proofs.Same.{Homed}
-use Rattle.law.proofs.Sorted.{listed, length_sorted}
+use Rattle.law.proofs.Sorted.{listed}
 use Rattle.archive_layout.specs.Keys.{is_behind, sought, front, least, place_in, listed_from}
 
 -- The order of places.

@@ -1,5 +1,5 @@
 -- A load, section by section. Assumes nothing.
-use Rattle.std.proofs.Common.{◌≡◌, ℕ, zero, suc, ◌+◌, ◌-◌, ◌*◌, ◌^◌, ◌<◌, ◌≤◌, min, Bool, true, false, eqb, ◌⊎◌, List, [], ◌∷◌, ◌++◌, length, take, drop, Some, None, Ok, Err, Option, Result, sym, refl, ap, ◌∙◌, subst, inl, inr, append-nil, arith, length-append, length-take}
+use Rattle.std.proofs.Common.{◌≡◌, ℕ, zero, suc, ◌+◌, ◌-◌, ◌^◌, ◌<◌, ◌≤◌, min, eqb, List, [], ◌∷◌, ◌++◌, length, take, drop, Some, None, Ok, Err, Option, Result, sym, refl, ap, ◌∙◌, subst, append-nil, arith, length-append, length-take}
 use Rattle.std.specs.List.{AllByRecursion}
 use Rattle.std.proofs.lemmas.List.{take_all, take-append-drop}
 use Rattle.journal.specs.Meaning.{Meaning, Section, Row, Lawful, Within, Rising, rows_of, first_from}
@@ -8,8 +8,8 @@ use Rattle.journal.proofs.Walks.{Leads, first_some, kept_all, walk, inside, next
 use Rattle.rules.specs.declared.fault.ArchiveFault.{ArchiveFault}
 use Rattle.rules.specs.State.{Kind, filed, records_of}
 use Rattle.rules.specs.Calls.{row_fault}
-use Rattle.index_layout.specs.Views.{View, free_view}
-use Rattle.archive_layout.specs.Fit.{Coding, expected, Agree}
+use Rattle.index_layout.specs.Views.{View}
+use Rattle.archive_layout.specs.Fit.{Coding, Agree}
 use Rattle.archive_layout.specs.Loads.{with_part, SectionReady, IndexesSection, IndexReady, IndexesAll}
 use Rattle.archive_layout.proofs.Sums.{SomeRows}
 use Rattle.archive_layout.proofs.Fits.{small, some_rows, ok_none, err_some}

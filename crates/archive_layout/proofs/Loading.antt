@@ -1,19 +1,19 @@
 -- One row of a load, by what was read of it. Assumes nothing.
-use Rattle.std.proofs.Common.{◌≡◌, ℕ, ◌-◌, Bool, true, false, cond, not, eqb, List, [], ◌∷◌, length, take, is_err, Some, None, Ok, Err, Option, Result, sym, refl, ap, ◌∙◌, subst, arith}
-use Rattle.std.proofs.lemmas.Bool.{cond-true, cond-false, eq-eqb, ne_eqb, both_ways}
+use Rattle.std.proofs.Common.{◌≡◌, ℕ, ◌-◌, Bool, true, false, not, eqb, List, [], ◌∷◌, length, take, is_err, Some, None, Ok, Err, Option, Result, sym, ap, ◌∙◌, subst, arith}
+use Rattle.std.proofs.lemmas.Bool.{cond-true, cond-false, eq-eqb, ne_eqb}
 use Rattle.keys.specs.declared.fault.KeyFault.{KeyFault}
 use Rattle.keys.specs.declared.fault.KeyFault.TheVariants.{StoredKey}
 use Rattle.keys.specs.Reading.{read_answer}
 use Rattle.journal.specs.declared.row.Entry.{Entry}
 use Rattle.journal.specs.Meaning.{Meaning, Row, Lawful, row_at}
-use Rattle.journal.specs.Calls.{or_fault, entry_of, entry_read, entry_buffer}
+use Rattle.journal.specs.Calls.{or_fault, entry_read, entry_buffer}
 use Rattle.rules.specs.declared.fault.ArchiveFault.{ArchiveFault}
 use Rattle.rules.specs.declared.fault.ArchiveFault.TheVariants.{WrongSection, Key}
 use Rattle.rules.specs.State.{Kind, section_of}
 use Rattle.rules.specs.Calls.{is_key, row_fault}
 use Rattle.index_layout.specs.Views.{View, bucket_of}
 use Rattle.index_layout.specs.Held.{Noted}
-use Rattle.archive_layout.specs.Fit.{Coding, offset_of, code_of, bucket_by}
+use Rattle.archive_layout.specs.Fit.{Coding, code_of, bucket_by}
 use Rattle.archive_layout.specs.Walks.{filed_at}
 use Rattle.archive_layout.specs.Loads.{IndexesRow}
 use Rattle.archive_layout.proofs.Bearers.{ReadRow, read_row}

@@ -1,9 +1,9 @@
 -- A load, row by row. Assumes nothing.
-use Rattle.std.proofs.Common.{◌≡◌, ℕ, zero, suc, ◌+◌, ◌-◌, ◌<◌, ◌≤◌, Bool, true, false, cond, not, ◌&&◌, ◌||◌, eqb, ltb, ◌⊎◌, List, [], ◌∷◌, ◌++◌, length, take, drop, Some, None, Ok, Err, Option, Result, sym, refl, ap, ◌∙◌, subst, inl, inr, ⊎_elim, append_assoc, append-nil, arith, length-append, length-take}
+use Rattle.std.proofs.Common.{◌≡◌, ℕ, zero, suc, ◌+◌, ◌-◌, ◌<◌, ◌≤◌, Bool, true, false, cond, not, ◌||◌, eqb, ltb, ◌⊎◌, List, [], ◌∷◌, ◌++◌, length, take, drop, Some, None, Ok, Err, Option, Result, sym, refl, ap, ◌∙◌, subst, inl, inr, append_assoc, arith, length-take}
 use Rattle.std.specs.List.{slice_get, AllByRecursion}
 use Rattle.std.proofs.lemmas.List.{take-append-drop, take_all}
-use Rattle.std.proofs.lemmas.Bool.{cond-true, cond-false, cases_Bool, eq-eqb, ne_eqb, eqb-true, le-ltb, lt-ltb, not-false, and_from, or_left, or_right, both_ways}
-use Rattle.journal.specs.Meaning.{Meaning, Section, Row, rows_of, is_kept, Rising}
+use Rattle.std.proofs.lemmas.Bool.{cond-true, cond-false, cases_Bool, eq-eqb, ne_eqb, eqb-true, le-ltb, lt-ltb, not-false, and_from, or_left, or_right}
+use Rattle.journal.specs.Meaning.{Meaning, Section, Row, rows_of, is_kept}
 use Rattle.journal.specs.Calls.{placed, extended, opened, or_fault}
 use Rattle.journal.proofs.Rows.{rows_not_kept}
 use Rattle.rules.specs.declared.fault.ArchiveFault.{ArchiveFault}
@@ -11,12 +11,12 @@ use Rattle.rules.specs.declared.fault.ArchiveFault.TheVariants.{WrongSection, Ke
 use Rattle.keys.specs.declared.fault.KeyFault.TheVariants.{StoredKey}
 use Rattle.rules.specs.State.{Kind, Record, section_of, number_of, filed, records_of}
 use Rattle.rules.specs.Calls.{row_fault, is_key}
-use Rattle.index_layout.specs.Views.{View, Apart, grown, takes}
-use Rattle.index_layout.specs.Held.{found, total, one, begun, has_room, Noted}
+use Rattle.index_layout.specs.Views.{View, Apart}
+use Rattle.index_layout.specs.Held.{found, total, one, has_room, Noted}
 use Rattle.archive_layout.specs.Fit.{Coding, expected, offset_of, code_of, bucket_by, Agree, Homed}
 use Rattle.archive_layout.specs.Walks.{filed_at}
 use Rattle.archive_layout.specs.Loads.{with_part, IndexesRow, SectionReady, IndexesSection}
-use Rattle.archive_layout.proofs.Sums.{sums, expected_some}
+use Rattle.archive_layout.proofs.Sums.{sums}
 use Rattle.archive_layout.proofs.Fits.{agree_placed, takes_row, offset_near, totals_one, ok_none, err_some}
 use Rattle.archive_layout.proofs.Rests.{drop_at, nth_inside, nth_there}
 

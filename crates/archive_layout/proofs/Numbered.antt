@@ -1,11 +1,10 @@
 -- Walks along the records of a number, as loops make them. Assumes nothing.
-use Rattle.std.proofs.Common.{◌≡◌, ℕ, ◌+◌, ◌-◌, ◌<◌, ◌≤◌, Bool, true, false, eqb, ◌⊎◌, List, [], ◌∷◌, ◌++◌, length, drop, is_some, Some, None, Option, sym, refl, ap, ◌∙◌, subst, inl, inr, append-nil, arith, length-append}
+use Rattle.std.proofs.Common.{◌≡◌, ℕ, ◌+◌, ◌<◌, ◌≤◌, true, false, eqb, ◌⊎◌, List, [], ◌∷◌, ◌++◌, length, drop, is_some, Some, None, Option, sym, ap, ◌∙◌, subst, inl, inr, arith, length-append}
 use Rattle.std.specs.List.{AllByRecursion, slice_get}
 use Rattle.std.proofs.lemmas.List.{drop_at, length-map, map-append}
 use Rattle.std.proofs.lemmas.Bool.{cond-true, cond-false, cond_both, cases_Bool, eq-eqb, both_ways}
-use Rattle.journal.specs.Meaning.{Meaning, Section, Row, Within, Lawful, rows_of, row_at}
-use Rattle.rules.specs.declared.answer.Place.{Place}
-use Rattle.rules.specs.State.{Record, number_of, place_of, filed, records_of, those, some_in, same_bytes, bears_number, bears_both, places_of}
+use Rattle.journal.specs.Meaning.{Meaning, Section, Row, Within, rows_of, row_at}
+use Rattle.rules.specs.State.{Record, place_of, records_of, those, some_in, same_bytes, bears_number, bears_both, places_of}
 use Rattle.index_layout.specs.Views.{View, first_in, next_in}
 use Rattle.index_layout.specs.Held.{found}
 use Rattle.archive_layout.specs.Fit.{Coding}

@@ -1,11 +1,10 @@
 -- The records that bear a number, found by the index: first position, next position. Assumes nothing.
-use Rattle.std.proofs.Common.{◌≡◌, ℕ, zero, suc, ◌+◌, ◌-◌, ◌<◌, ◌≤◌, Bool, true, false, cond, ◌&&◌, eqb, ltb, ◌⊎◌, List, [], ◌∷◌, ◌++◌, map, length, get_or, drop, is_some, Some, None, Option, sym, refl, ap, ◌∙◌, subst, inl, inr, append-nil, div-mul-le_self, arith}
+use Rattle.std.proofs.Common.{◌≡◌, ℕ, zero, suc, ◌+◌, ◌-◌, ◌<◌, ◌≤◌, cond, ◌&&◌, eqb, ltb, ◌⊎◌, List, [], ◌∷◌, map, length, get_or, is_some, Some, None, Option, sym, refl, ap, ◌∙◌, subst, inl, inr, div-mul-le_self, arith}
 use Rattle.std.specs.List.{slice_get, AllByRecursion}
 use Rattle.std.proofs.lemmas.List.{length-map}
-use Rattle.std.proofs.lemmas.Bool.{cond-true, cond-false, cond_both, cases_eq, cases_lt, eqb-true, eq-eqb, ne_eqb, and_parts, and_from, lt-ltb, ltb-true, both_ways}
+use Rattle.std.proofs.lemmas.Bool.{cond-true, cond_both, cases_lt, eqb-true, eq-eqb, and_parts, and_from, lt-ltb, ltb-true}
 use Rattle.journal.specs.Meaning.{Meaning, Section, Row, rows_of, Rising, Lawful}
-use Rattle.journal.proofs.Rows.{rows_below}
-use Rattle.rules.specs.State.{Record, section_of, number_of, filed, records_of, those, some_in, bears_number}
+use Rattle.rules.specs.State.{section_of, number_of, filed, records_of, those, some_in, bears_number}
 use Rattle.rules.specs.Calls.{Among}
 use Rattle.law.proofs.Lists.{among_either}
 use Rattle.law.proofs.Arrivals.{starts_records}
@@ -16,7 +15,7 @@ use Rattle.index_layout.specs.Views.{View, first_in, next_in}
 use Rattle.index_layout.specs.Held.{found}
 use Rattle.index_layout.proofs.Links.{linked_none, linked_some}
 use Rattle.archive_layout.specs.Fit.{Coding, expected, offset_of, Homed, Fit}
-use Rattle.archive_layout.specs.Walks.{filed_at, rest, from_link}
+use Rattle.archive_layout.specs.Walks.{filed_at, rest}
 use Rattle.archive_layout.proofs.Fits.{offset_near}
 use Rattle.archive_layout.proofs.Places.{earliest_is, following_is, first_place, first_none, first_some}
 use Rattle.archive_layout.proofs.Rests.{nth_there, nth_inside, rest_yes, rest_skip, rest_past}

@@ -1,5 +1,5 @@
 -- A prune, the counts and a load, by the rules. Assumes nothing.
-use Rattle.std.proofs.Common.{◌≡◌, ℕ, Bool, true, false, cond, not, eqb, List, length, Some, None, Ok, Err, Option, Result, sym, refl, ap, ◌∙◌, ap₂}
+use Rattle.std.proofs.Common.{◌≡◌, ℕ, true, false, not, eqb, List, length, Some, None, Ok, Err, Option, Result, sym, ap, ◌∙◌, ap₂}
 use Rattle.std.proofs.lemmas.Bool.{cond-true, cond-false}
 use Rattle.journal.specs.Meaning.{Meaning, Lawful}
 use Rattle.journal.specs.Calls.{pruned, or_fault, or_keep}

@@ -1,12 +1,12 @@
 -- The first bearer of a key over all sections, by rising start. Assumes nothing.
-use Rattle.std.proofs.Common.{◌≡◌, ℕ, ◌+◌, ◌<◌, ◌≤◌, Bool, true, false, cond, ◌&&◌, ◌||◌, eqb, ltb, ◌⊎◌, List, [], ◌∷◌, ◌++◌, Some, None, Option, sym, refl, ap, ◌∙◌, subst, inl, inr, arith}
+use Rattle.std.proofs.Common.{◌≡◌, ℕ, ◌+◌, ◌<◌, ◌≤◌, Bool, false, eqb, ltb, ◌⊎◌, List, [], ◌∷◌, ◌++◌, Some, None, sym, refl, ap, ◌∙◌, subst, inl, inr, arith}
 use Rattle.std.specs.List.{AllByRecursion}
 use Rattle.std.proofs.lemmas.Bool.{cond-true, cond-false, cases_lt, lt-ltb, le-ltb, ne_eqb, and_left, and_right, or_from}
 use Rattle.journal.specs.Meaning.{Section, Row, rows_of, first_from, Rising}
 use Rattle.journal.specs.Calls.{kept_from}
-use Rattle.journal.proofs.Walks.{Leads, first_some, first_none}
+use Rattle.journal.proofs.Walks.{first_some, first_none}
 use Rattle.rules.specs.declared.answer.Place.{Place}
-use Rattle.rules.specs.State.{Record, section_of, number_of, place_of, filed, records_of, those, bears_key}
+use Rattle.rules.specs.State.{Record, section_of, number_of, filed, records_of, those}
 use Rattle.rules.specs.Calls.{Among}
 use Rattle.law.proofs.Lists.{those-++, those_among, those_none, among_either}
 use Rattle.law.proofs.Arrivals.{under, at_most}

@@ -1,12 +1,12 @@
 -- The least bearer, candidate after candidate and section after section. Assumes nothing.
-use Rattle.std.proofs.Common.{◌≡◌, ℕ, ◌+◌, ◌*◌, ◌/◌, ◌%◌, ◌^◌, ◌<◌, ◌≤◌, Bool, cond, List, [], ◌∷◌, length, drop, Some, None, Option, sym, refl, ap, ◌∙◌, subst, arith, length-append}
+use Rattle.std.proofs.Common.{◌≡◌, ℕ, ◌+◌, ◌*◌, ◌%◌, ◌^◌, ◌<◌, ◌≤◌, Bool, cond, List, [], ◌∷◌, length, drop, Some, None, Option, sym, refl, ap, ◌∙◌, subst, arith, length-append}
 use Rattle.std.specs.List.{slice_get, AllByRecursion}
 use Rattle.std.proofs.lemmas.Bool.Decides.{nat_tests}
 use Rattle.std.proofs.lemmas.List.{nil_from_length}
-use Rattle.journal.specs.Meaning.{Meaning, Section, Row, Within, Rising, Lawful, rows_of, row_at, first_from}
+use Rattle.journal.specs.Meaning.{Meaning, Section, Row, Within, Rising, Lawful, rows_of, first_from}
 use Rattle.journal.specs.Calls.{kept_from}
 use Rattle.journal.specs.declared.limits.Limits.{Limits}
-use Rattle.journal.proofs.Walks.{Leads, first_some, kept_all}
+use Rattle.journal.proofs.Walks.{first_some, kept_all}
 use Rattle.rules.specs.declared.answer.Place.{Place}
 use Rattle.rules.specs.State.{Record, place_of, filed, records_of, those, bears_key}
 use Rattle.law.proofs.Lists.{those_among, length_those}

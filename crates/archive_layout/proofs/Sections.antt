@@ -1,5 +1,5 @@
 -- The index goes through the sections as the journal's meaning has them. Assumes nothing.
-use Rattle.std.proofs.Common.{◌≡◌, ℕ, ◌+◌, ◌^◌, ◌<◌, ◌≤◌, Bool, true, false, cond, eqb, ◌⊎◌, List, [], ◌∷◌, ◌++◌, length, Some, None, Option, sym, refl, ap, ◌∙◌, subst, inl, inr, ⊎_elim, arith}
+use Rattle.std.proofs.Common.{◌≡◌, ℕ, ◌+◌, ◌^◌, ◌<◌, ◌≤◌, true, false, eqb, ◌⊎◌, List, [], ◌∷◌, length, Some, None, Option, sym, refl, ap, ◌∙◌, subst, inl, inr, ⊎_elim, arith}
 use Rattle.std.specs.List.{AllByRecursion}
 use Rattle.std.proofs.lemmas.Bool.{cond-true, cond-false, cases_lt, eq-eqb, ne_eqb, both_ways, lt-ltb, le-ltb}
 use Rattle.std.proofs.ByRecursion.{All-weaker}
@@ -8,9 +8,9 @@ use Rattle.journal.specs.Calls.{kept_from}
 use Rattle.journal.specs.declared.limits.Limits.{Limits}
 use Rattle.journal.proofs.Rows.{rows_kept_from, rows_gone}
 use Rattle.journal.proofs.Walks.{Leads, first_some, first_none, kept_none}
-use Rattle.index_layout.specs.Views.{View, free_view, view_at, Holds, Apart}
-use Rattle.index_layout.specs.Held.{found, FirstAt}
-use Rattle.index_layout.proofs.Held.{found_cases, found_at, Nowhere, Somewhere}
+use Rattle.index_layout.specs.Views.{View, view_at, Holds, Apart}
+use Rattle.index_layout.specs.Held.{FirstAt}
+use Rattle.index_layout.proofs.Held.{found_cases, found_at, Somewhere}
 use Rattle.archive_layout.specs.Fit.{Coding, expected, full_view, Agree}
 use Rattle.archive_layout.proofs.Sums.{SomeRows, expected_some}
 

@@ -16,10 +16,10 @@
 --   candidates_in c h v  how many the slot v has
 --   Coded              what a search for a key rests on: the key's width, its translated key and its hash
 use Rattle.std.specs.Prelude.{◌≡◌, ℕ, zero, suc, ◌+◌, ◌/◌, ◌%◌, ◌^◌, ◌<◌, ◌≤◌, Bool, true, cond, ◌&&◌, ◌||◌, List, [], ◌∷◌, length, Some, None, Option, ◌==◌, ◌≢◌, nat_le, nat_lt, slice_index}
-use Rattle.journal.specs.Meaning.{Meaning, Section, Row}
+use Rattle.journal.specs.Meaning.{Meaning, Section}
 use Rattle.journal.specs.Calls.{kept_from}
 use Rattle.rules.specs.declared.answer.Place.{Place}
-use Rattle.rules.specs.State.{Record, section_of, number_of, place_of, bears_key, records_of, those, by_number, places_of}
+use Rattle.rules.specs.State.{Record, section_of, place_of, bears_key, records_of, those, by_number, places_of}
 use Rattle.archive_layout.specs.declared.spot.Spot.{Spot}
 use Rattle.index_layout.specs.Views.{View, bucket_of}
 use Rattle.archive_layout.specs.Fit.{Coding}

@@ -5,15 +5,15 @@
 --   IndexesSection     what that answers and does
 --   IndexReady         what taking all sections rests on
 --   IndexesAll         what that answers and does
-use Rattle.std.specs.Prelude.{◌≡◌, ℕ, ◌-◌, ◌<◌, ◌≤◌, true, List, [], ◌∷◌, ◌++◌, length, None, Option, Result}
+use Rattle.std.specs.Prelude.{◌≡◌, ℕ, ◌<◌, ◌≤◌, true, List, [], ◌∷◌, ◌++◌, length, None, Result}
 use Rattle.std.specs.List.{AllByRecursion}
 use Rattle.journal.specs.Meaning.{Meaning, Section, Row, rows_of, Rising}
 use Rattle.journal.specs.Calls.{or_fault}
 use Rattle.rules.specs.declared.fault.ArchiveFault.{ArchiveFault}
-use Rattle.rules.specs.State.{Kind, section_of, filed, records_of}
+use Rattle.rules.specs.State.{Kind, filed, records_of}
 use Rattle.rules.specs.Calls.{row_fault, archive_limits}
 use Rattle.index_layout.specs.Views.{View, free_view}
-use Rattle.index_layout.specs.Held.{found, has_room, Noted}
+use Rattle.index_layout.specs.Held.{found, Noted}
 use Rattle.archive_layout.specs.Fit.{Coding, offset_of, code_of, bucket_by, Agree}
 use Rattle.archive_layout.specs.Walks.{filed_at}
 

@@ -1,5 +1,5 @@
 -- That the table goes on fitting the journal below. Assumes nothing.
-use Rattle.std.proofs.Common.{◌≡◌, ℕ, ◌<◌, ◌≤◌, Bool, true, false, cond, ltb, List, map, Some, None, Option, sym, refl, ap, ◌∙◌, subst, ⊎_elim, arith}
+use Rattle.std.proofs.Common.{◌≡◌, ℕ, false, ltb, List, map, Some, None, Option, sym, ap, ◌∙◌, subst, ⊎_elim}
 use Rattle.std.specs.List.{slice_get}
 use Rattle.std.proofs.ByRecursion.{All-weaker, All-map}
 use Rattle.std.proofs.lemmas.Bool.{cases_lt, cond-true, cond-false, lt-ltb, le-ltb, both_ways}
@@ -9,7 +9,7 @@ use Rattle.journal.specs.Meaning.{Meaning, Row, row_at}
 use Rattle.journal.specs.Calls.{append_fault, appended, or_keep, with_row, new_row, pruned}
 use Rattle.journal.proofs.Rows.{row_stays, rows_kept_from}
 use Rattle.journal.proofs.Laws.{limits_appended}
-use Rattle.cache.specs.Fit.{SlotFits, TableFits, Copies}
+use Rattle.cache.specs.Fit.{SlotFits, TableFits}
 use Rattle.cache.specs.Table.{forgotten}
 use Rattle.cache.specs.declared.slot.Slot.{Slot}
 

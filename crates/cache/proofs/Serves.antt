@@ -1,13 +1,12 @@
 -- That a copy answers as the journal below would, and that a place filled from an answer fits. Assumes nothing.
-use Rattle.std.proofs.Common.{◌≡◌, ℕ, ◌+◌, ◌<◌, ◌≤◌, Bool, true, false, cond, ltb, List, ◌++◌, length, take, drop, set, Some, None, Ok, Err, Option, Result, sym, refl, ap, ◌∙◌, subst, arith, length-take}
+use Rattle.std.proofs.Common.{◌≡◌, ℕ, ◌≤◌, cond, ltb, List, ◌++◌, length, take, drop, set, Some, Ok, Err, sym, ap, ◌∙◌, subst, arith, length-take}
 use Rattle.std.proofs.ByRecursion.{All-set}
 use Rattle.std.proofs.lemmas.Bool.{cond-false, le-ltb}
 use Rattle.std.proofs.lemmas.List.{take_at}
 use Rattle.journal.specs.declared.row.Entry.{Entry}
-use Rattle.journal.specs.declared.fault.JournalFault.{JournalFault}
 use Rattle.journal.specs.declared.fault.JournalFault.TheVariants.{Short}
 use Rattle.journal.specs.Meaning.{Meaning, Row, Lawful, row_at}
-use Rattle.journal.specs.Calls.{entry_read, entry_answer, entry_buffer, entry_fill, entry_of}
+use Rattle.journal.specs.Calls.{entry_read, entry_answer, entry_buffer, entry_fill}
 use Rattle.journal.proofs.Rows.{key_width, entry_found}
 use Rattle.cache.specs.Fit.{SlotFits, TableFits, Copies}
 use Rattle.cache.specs.Table.{find_slot, hit_answer, hit_fill, padding, copy_of}

@@ -1,4 +1,5 @@
 // The entry cache: a journal over any other, which answers repeated entry reads from a table of its own.
+#![tactic(auto)]
 
 mod slot;
 mod table;

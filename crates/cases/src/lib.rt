@@ -1,4 +1,5 @@
 // The worked cases, proved together; their list stands in specs/Cases.antt.
+#![tactic(auto)]
 
 ghost use Rattle.std.specs.Prelude.{◌≡◌, length};
 ghost use Rattle.cases.specs.Cases.{AllHold, worked};

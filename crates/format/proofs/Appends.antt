@@ -1,17 +1,16 @@
 -- An append, from the facts that the code finds. Assumes nothing.
-use Rattle.std.proofs.Common.{◌≡◌, ℕ, ◌+◌, ◌^◌, ◌<◌, ◌≤◌, Bool, true, false, eqb, ◌⊎◌, List, length, Some, None, Ok, Err, Option, Result, sym, refl, ap, ◌∙◌, subst, inl, inr, ⊎_elim, arith}
+use Rattle.std.proofs.Common.{◌≡◌, ℕ, ◌+◌, ◌^◌, ◌<◌, ◌≤◌, true, false, List, length, Some, None, Ok, Err, sym, refl, ap, ◌∙◌, subst, inl, inr, ⊎_elim, arith}
 use Rattle.std.proofs.lemmas.Bool.{eqb-true, eq-eqb, true≢false}
 use Rattle.journal.specs.declared.row.Label.{Label}
 use Rattle.journal.specs.declared.fault.JournalFault.{JournalFault}
 use Rattle.journal.specs.declared.fault.JournalFault.TheVariants.{WrongWidth, BelowFloor, NoSlot, RowsFull, BytesFull}
-use Rattle.journal.specs.Meaning.{Meaning, Section, cost, cost_of, rows_of}
-use Rattle.journal.specs.Calls.{append_fault, append_answer, appended, no_slot, new_row}
+use Rattle.journal.specs.Meaning.{Section, cost, cost_of, rows_of}
+use Rattle.journal.specs.Calls.{append_fault, no_slot, new_row}
 use Rattle.journal.specs.Slots.{kept_in, Ready}
 use Rattle.journal.proofs.Refusals as refusals
 use Rattle.journal.proofs.Pages as slots
-use Rattle.format.specs.Decode.{is_free}
 use Rattle.format.specs.Mount.{found, bears, empty_at}
-use Rattle.format.specs.State.{View, page_in, pages_in, meaning_of, count_in, used_in, is_sound, stored, Takes, Leaves}
+use Rattle.format.specs.State.{View, page_in, pages_in, meaning_of, count_in, used_in, is_sound, stored, Takes}
 use Rattle.format.specs.Well.{Well, Stores}
 use Rattle.format.proofs.Firsts.{found_some, found_none}
 use Rattle.format.proofs.Mounting.{above_zero, bears_true, free_count, sound_well, sound_again}

@@ -1,11 +1,11 @@
 -- More laws of chunk and put: parts of parts, writes inside a part, and writes with their check behind. Assumes nothing.
-use Rattle.std.proofs.Common.{◌≡◌, ℕ, ◌+◌, ◌-◌, ◌<◌, ◌≤◌, List, [], ◌∷◌, ◌++◌, length, take, drop, sym, refl, ap, ◌∙◌, arith, length-append, rules}
+use Rattle.std.proofs.Common.{◌≡◌, ℕ, ◌+◌, ◌-◌, ◌≤◌, List, [], ◌++◌, length, take, drop, sym, refl, ap, arith, length-append, rules}
 use Rattle.std.proofs.lemmas.List.{places, same_lists, take_at, drop_at, append-nil}
 use Rattle.journal.specs.Bytes.{chunk, put}
 use Rattle.journal.specs.Meaning.{check_size}
 use Rattle.journal.proofs.Bytes.{chunk_put_same}
 use Rattle.format.specs.Numbers.{be_4}
-use Rattle.format.specs.Layout.{entry_check, value_check, value_seal, sealed, value_bytes}
+use Rattle.format.specs.Layout.{entry_check, value_seal, sealed, value_bytes}
 
 -- A write inside a chunk, and a part of a part.
 pub chunk_put_in : (xs : List ℕ) (a : ℕ) (ys : List ℕ) (b n : ℕ) → b + a + length ys ≤ b + n → b + n ≤ length xs → chunk (put xs (b + a) ys) b n ≡ put (chunk xs b n) a ys

@@ -1,18 +1,17 @@
 -- One row more in a page that has room for it. Assumes nothing.
-use Rattle.std.proofs.Common.{◌≡◌, ℕ, zero, suc, ◌+◌, ◌-◌, ◌*◌, ◌^◌, ◌<◌, ◌≤◌, Bool, true, false, cond, eqb, ◌⊎◌, List, [], ◌∷◌, ◌++◌, map, length, sym, refl, ap, ◌∙◌, subst, inl, inr, ⊎_elim, eq-or-lt_of_le, arith}
-use Rattle.std.specs.List.{range_with_len}
+use Rattle.std.proofs.Common.{◌≡◌, ℕ, zero, suc, ◌+◌, ◌-◌, ◌^◌, ◌<◌, ◌≤◌, true, eqb, List, [], ◌∷◌, ◌++◌, length, sym, refl, ap, ◌∙◌, subst, ⊎_elim, eq-or-lt_of_le, arith}
 use Rattle.std.proofs.lemmas.Bool.{eq-eqb}
 use Rattle.std.proofs.lemmas.List.FromFn.{map-range_with_len_more}
 use Rattle.journal.specs.declared.limits.Limits.{Limits}
 use Rattle.journal.specs.declared.row.Label.{Label}
 use Rattle.journal.specs.Bytes.{chunk, put}
-use Rattle.journal.specs.Meaning.{Content, sound, damaged, Row, check_size, cost_of}
+use Rattle.journal.specs.Meaning.{Content, sound, Row, check_size, cost_of}
 use Rattle.journal.specs.Calls.{new_row}
 use Rattle.journal.proofs.Bytes.{length_put, chunk_put_before, chunk_put_after, step_le}
 use Rattle.journal.proofs.Pages.{map_counting_same}
 use Rattle.format.specs.Numbers.{be, be_4, be_8}
 use Rattle.format.specs.Layout.{count_at, head_check_at, head_size, row_check_at, row_size, row_place, page_size, entry_check, value_check, value_seal, sealed, value_bytes, head_front, head_bytes, row_bytes}
-use Rattle.format.specs.Decode.{start_of, count_of, is_free, row_at, label_of, key_of, offset_of, size_of, length_of, content_of, row_of, used, first_rows}
+use Rattle.format.specs.Decode.{start_of, count_of, row_at, label_of, key_of, offset_of, size_of, length_of, content_of, row_of, used, first_rows}
 use Rattle.format.specs.Well.{Checked, RowFits, GoodPage}
 use Rattle.format.proofs.Numbers.{be_be_4, be_be_8, be_entry_check, be_value_check}
 use Rattle.format.proofs.Bytes.{chunk_inside, chunk_put_whole, chunk_front, chunk_mid, length_sealed, chunk_sealed_front, chunk_sealed_check, length_value_bytes, chunk_value_front, chunk_value_check}

@@ -1,21 +1,19 @@
 -- The making, and mounting again what byte pages leave. Assumes nothing.
-use Rattle.std.proofs.Common.{◌≡◌, ℕ, ◌+◌, ◌*◌, ◌^◌, ◌<◌, ◌≤◌, Bool, true, false, cond, ◌⊎◌, List, length, get_or, Some, None, Option, sym, refl, ap, ◌∙◌, subst, inl, inr, ⊎_elim, arith}
+use Rattle.std.proofs.Common.{◌≡◌, ℕ, ◌*◌, ◌^◌, ◌<◌, true, List, length, get_or, Some, None, Option, sym, refl, ap, ◌∙◌, subst, ⊎_elim, arith}
 use Rattle.std.proofs.lemmas.Bool.{cond-false, cases_Bool}
 use Rattle.journal.specs.declared.limits.Limits.{Limits}
 use Rattle.journal.specs.declared.fault.JournalFault.{JournalFault}
 use Rattle.journal.specs.declared.fault.JournalFault.TheVariants.{WrongSizes}
 use Rattle.journal.specs.Calls.{or_keep}
 use Rattle.journal.specs.Making.{nothing, made}
-use Rattle.journal.proofs.Bytes.{step_le}
 use Rattle.format.specs.Numbers.{be}
 use Rattle.format.specs.Layout.{page_size}
 use Rattle.format.specs.Decode.{page, start_of}
 use Rattle.format.specs.Mount.{earliest, slot_fault, sized, mount_fault}
 use Rattle.format.specs.State.{View, meaning_of, offered, decoded, mounted, Lasts, is_sound}
-use Rattle.format.specs.Well.{Laid, Well}
+use Rattle.format.specs.Well.{Laid}
 use Rattle.format.proofs.Numbers.{be_chunk_below}
 use Rattle.format.proofs.Bytes.{chunk_inside}
-use Rattle.format.proofs.Firsts.{some_none}
 use Rattle.format.proofs.Slots.{page_ends}
 use Rattle.format.proofs.Mounting.{Ranged, Naught, sound_ranged, sound_well, well_sound, naught_sound, accepted_is, is_accepted, well_sure, sure_well, laid_is, ranged_is}
 

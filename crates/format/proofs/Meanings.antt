@@ -1,23 +1,23 @@
 -- What byte pages mean, slot by slot: lawful, and found again by their starts. Assumes nothing.
-use Rattle.std.proofs.Common.{◌≡◌, ℕ, zero, suc, ◌+◌, ◌-◌, ◌*◌, ◌^◌, ◌<◌, ◌≤◌, Bool, true, false, cond, eqb, ◌⊎◌, List, [], ◌∷◌, ◌++◌, map, length, get_or, Some, None, Option, sym, refl, ap, ◌∙◌, subst, ap₂, inl, inr, ⊎_elim, add-one, arith}
+use Rattle.std.proofs.Common.{◌≡◌, ℕ, zero, suc, ◌+◌, ◌-◌, ◌<◌, ◌≤◌, true, eqb, List, [], ◌∷◌, ◌++◌, map, length, Some, None, Option, sym, refl, ap, ◌∙◌, subst, ap₂, ⊎_elim, add-one, arith}
 use Rattle.std.proofs.lemmas.Bool.{cond_both, cases_order, true≢false}
 use Rattle.std.proofs.lemmas.List.FromFn.{length-map-range_with_len, get_or-map-range_with_len, map-range_with_len_more}
 use Rattle.std.proofs.ByRecursion.{All-from_get_or}
 use Rattle.std.specs.List.{range_with_len, AllByRecursion}
 use Rattle.journal.specs.declared.limits.Limits.{Limits}
 use Rattle.journal.specs.Bytes.{chunk}
-use Rattle.journal.specs.Meaning.{Content, sound, damaged, Row, Section, Meaning, check_size, size, cost, cost_of, rows_of, first_from as first-kept, Within, Lawful}
+use Rattle.journal.specs.Meaning.{sound, damaged, Row, check_size, size, cost, rows_of, first_from as first-kept, Lawful}
 use Rattle.journal.specs.Slots.{nearest, first_of, Distinct, Absent}
 use Rattle.journal.proofs.Bytes.{length_chunk, step_le}
 use Rattle.journal.proofs.Laws.{cost_push}
 use Rattle.journal.proofs.Pages as slots
 use Rattle.journal.proofs.Search.{first_is}
 use Rattle.format.specs.Numbers.{be}
-use Rattle.format.specs.Layout.{key_at, row_size, row_place, page_size, value_check}
-use Rattle.format.specs.Decode.{count_of, row_at, label_of, key_of, offset_of, size_of, length_of, content_of, row_of, used, first_rows}
+use Rattle.format.specs.Layout.{key_at, row_size, row_place, value_check}
+use Rattle.format.specs.Decode.{count_of, row_at, key_of, offset_of, size_of, length_of, content_of, row_of, used, first_rows}
 use Rattle.format.specs.Mount.{found, bears}
 use Rattle.format.specs.State.{View, page_in, vals_in, pages_in, meaning_of, count_in, start_in, used_in, is_sound, first_from}
-use Rattle.format.specs.Well.{Laid, GoodPage, Well}
+use Rattle.format.specs.Well.{GoodPage, Well}
 use Rattle.format.proofs.Firsts.{found_some, found_none}
 use Rattle.format.proofs.Mounting.{bears_true, true_bears, sound_well}
 use Rattle.format.proofs.Slots.{length_page, length_vals}

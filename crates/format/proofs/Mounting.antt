@@ -1,5 +1,5 @@
 -- The mounting check against the facts that code rests on, both ways. Assumes nothing.
-use Rattle.std.proofs.Common.{◌≡◌, ℕ, zero, suc, ◌+◌, ◌*◌, ◌^◌, ◌<◌, ◌≤◌, Bool, true, false, cond, ◌&&◌, ◌||◌, eqb, ltb, leb, ◌⊎◌, List, [], ◌∷◌, length, take, drop, Some, None, Option, sym, refl, ap, ◌∙◌, subst, inl, inr, ⊎_elim, eq-or-lt_of_le, arith}
+use Rattle.std.proofs.Common.{◌≡◌, ℕ, zero, suc, ◌*◌, ◌^◌, ◌<◌, ◌≤◌, Bool, true, false, cond, eqb, ltb, ◌⊎◌, List, [], ◌∷◌, length, take, drop, Some, None, Option, sym, refl, ap, ◌∙◌, subst, inl, inr, ⊎_elim, eq-or-lt_of_le, arith}
 use Rattle.std.proofs.lemmas.Bool.{cond_both, cond-true, cond-false, cases_Bool, and_parts, and_from, or_cases, or_left, or_right, eqb-true, eq-eqb, ltb-true, ltb-false, lt-ltb, le-ltb, leb-true, le-leb, true≢false, cases_eq}
 use Rattle.journal.specs.declared.limits.Limits.{Limits}
 use Rattle.journal.specs.declared.fault.JournalFault.{JournalFault}
@@ -7,10 +7,10 @@ use Rattle.journal.specs.declared.fault.JournalFault.TheVariants.{WrongSizes, Ba
 use Rattle.journal.specs.Bytes.{chunk}
 use Rattle.journal.specs.Meaning.{check_size}
 use Rattle.format.specs.Numbers.{be}
-use Rattle.format.specs.Layout.{count_at, head_check_at, head_size, row_check_at, page_size}
+use Rattle.format.specs.Layout.{count_at, head_check_at, head_size, page_size}
 use Rattle.format.specs.Decode.{page, start_of, count_of, zeros, is_free, row_at, used}
-use Rattle.format.specs.Mount.{is_none, found, earliest, passing, bears, head_right, head_good, row_fits, row_good, sound_rows, rows_fault, slot_fault, sized, mount_fault}
-use Rattle.format.specs.State.{View, page_in, count_in, start_in, starts_good, no_limits, is_sound}
+use Rattle.format.specs.Mount.{is_none, found, earliest, bears, head_right, head_good, row_fits, row_good, sound_rows, rows_fault, slot_fault, sized, mount_fault}
+use Rattle.format.specs.State.{View, count_in, start_in, starts_good, no_limits, is_sound}
 use Rattle.format.specs.Well.{Small, Laid, Checked, RowFits, GoodPage, Well}
 use Rattle.format.proofs.Bytes.{chunk_inside}
 use Rattle.format.proofs.Firsts.{some_none, is_none_true, earliest_none, none_earliest, found_none, none_found, passing_le, all_pass, each_passes}

@@ -1,14 +1,14 @@
 -- A prune, slot after slot, and what it makes of the meaning. Assumes nothing.
-use Rattle.std.proofs.Common.{◌≡◌, ℕ, zero, suc, ◌+◌, ◌*◌, ◌^◌, ◌<◌, ◌≤◌, max, Bool, true, false, cond, ◌&&◌, ◌||◌, ltb, ◌⊎◌, List, [], length, sym, refl, ap, ◌∙◌, subst, ap₂, inl, inr, ⊎_elim, eq-or-lt_of_le, add-one, arith}
-use Rattle.std.proofs.lemmas.Bool.{cond-true, cond-false, cond_both, cases_Bool, and_from, ltb-true, ltb-false, lt-ltb, true≢false, cases_eq}
+use Rattle.std.proofs.Common.{◌≡◌, ℕ, zero, suc, ◌+◌, ◌*◌, ◌<◌, ◌≤◌, max, Bool, true, false, cond, ◌&&◌, ◌||◌, ltb, List, length, sym, refl, ap, ◌∙◌, subst, ap₂, ⊎_elim, eq-or-lt_of_le, add-one, arith}
+use Rattle.std.proofs.lemmas.Bool.{cond-true, cond-false, cond_both, cases_Bool, and_from, ltb-false, lt-ltb, true≢false, cases_eq}
 use Rattle.journal.specs.declared.limits.Limits.{Limits}
 use Rattle.journal.specs.Bytes.{put}
-use Rattle.journal.specs.Meaning.{Section, Meaning}
+use Rattle.journal.specs.Meaning.{Section}
 use Rattle.journal.specs.Calls.{any_below, pruned}
 use Rattle.journal.specs.Slots.{vacancy, pruned_slot, goes, gone_of}
 use Rattle.journal.proofs.Pages as slots
 use Rattle.journal.proofs.Search.{gone_is}
-use Rattle.format.specs.Layout.{head_size, page_size, free_head}
+use Rattle.format.specs.Layout.{page_size, free_head}
 use Rattle.format.specs.Decode.{page_place, page, start_of, count_of, is_free, section_of, first_rows}
 use Rattle.format.specs.State.{View, page_in, vals_in, pages_in, meaning_of, count_in, start_in, is_sound, below, freed, pruned_entries, gone_below, pruned_by}
 use Rattle.format.specs.Well.{Laid, GoodPage, Well}

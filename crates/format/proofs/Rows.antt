@@ -1,8 +1,7 @@
 -- The fields of a row as it is written. Assumes nothing.
-use Rattle.std.proofs.Common.{◌≡◌, ℕ, ◌+◌, ◌^◌, ◌<◌, List, [], ◌∷◌, ◌++◌, length, sym, refl, ap, ◌∙◌, arith, length-append}
+use Rattle.std.proofs.Common.{◌≡◌, ℕ, ◌+◌, ◌^◌, ◌<◌, List, ◌++◌, length, sym, refl, ap, ◌∙◌, arith, length-append}
 use Rattle.std.proofs.lemmas.List.{append_assoc}
 use Rattle.journal.specs.declared.row.Label.{Label}
-use Rattle.journal.specs.Bytes.{chunk}
 use Rattle.format.specs.Numbers.{be, be_4, be_8}
 use Rattle.format.specs.Layout.{key_at, front_size, offset_at, size_at, row_check_at, row_size, entry_check, sealed, label_front, row_front, row_bytes}
 use Rattle.format.specs.Decode.{label_of, key_of, offset_of, size_of}

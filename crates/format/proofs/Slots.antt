@@ -1,5 +1,5 @@
 -- A write inside one slot: what it makes of that slot's page and values, and that it leaves the others. Assumes nothing.
-use Rattle.std.proofs.Common.{◌≡◌, ℕ, zero, suc, ◌+◌, ◌*◌, ◌^◌, ◌<◌, ◌≤◌, Bool, true, ◌⊎◌, List, [], ◌∷◌, ◌++◌, length, replicate, sym, refl, ap, ◌∙◌, subst, ap₂, inl, inr, ⊎_elim, arith}
+use Rattle.std.proofs.Common.{◌≡◌, ℕ, zero, suc, ◌+◌, ◌*◌, ◌^◌, ◌<◌, ◌≤◌, true, ◌⊎◌, List, [], ◌∷◌, ◌++◌, length, sym, refl, ap, ◌∙◌, subst, ap₂, inl, inr, ⊎_elim, arith}
 use Rattle.std.proofs.lemmas.Bool.{cases_eq}
 use Rattle.journal.specs.declared.limits.Limits.{Limits}
 use Rattle.journal.specs.declared.row.Label.{Label}
@@ -7,12 +7,11 @@ use Rattle.journal.specs.Bytes.{chunk, put}
 use Rattle.journal.specs.Meaning.{Row, Section, cost_of}
 use Rattle.journal.specs.Calls.{new_row}
 use Rattle.journal.proofs.Bytes.{length_chunk, length_put, chunk_put_before, chunk_put_after, step_le}
-use Rattle.format.specs.Numbers.{be}
-use Rattle.format.specs.Layout.{count_at, head_size, row_size, row_place, page_size, row_bytes, head_bytes, value_bytes, free_head}
-use Rattle.format.specs.Decode.{page_place, page, vals, start_of, count_of, zeros, is_free, used, first_rows, section_of}
+use Rattle.format.specs.Layout.{head_size, row_size, row_place, page_size, row_bytes, head_bytes, value_bytes, free_head}
+use Rattle.format.specs.Decode.{page_place, page, start_of, count_of, zeros, is_free, first_rows, section_of}
 use Rattle.format.specs.State.{View, page_in, vals_in, pages_in, count_in, start_in, used_in, stored}
 use Rattle.format.specs.Well.{Laid, GoodPage, Well}
-use Rattle.format.proofs.Bytes.{chunk_put_in, chunk_inside, chunk_put_whole, length_value_bytes}
+use Rattle.format.proofs.Bytes.{chunk_put_in, chunk_put_whole, length_value_bytes}
 use Rattle.format.proofs.Rows.{length_row}
 use Rattle.format.proofs.Grow.{grown_page, length_head, start_new, count_new, rows_new, good_new}
 

@@ -18,7 +18,7 @@
 --   pruned_entries        the entries once the first slots are pruned: the headers of sections below min zeroed, and no other byte
 --   gone_below            whether one of the first slots went
 --   pruned_by v min       byte pages after a prune by min
-use Rattle.std.specs.Prelude.{◌≡◌, ℕ, zero, suc, ◌+◌, ◌*◌, ◌^◌, ◌<◌, ◌≤◌, max, Bool, true, false, cond, ◌&&◌, ◌||◌, ◌⊎◌, List, length, Some, None, Ok, Err, Option, Result, ◌==◌, nat_le, nat_lt}
+use Rattle.std.specs.Prelude.{◌≡◌, ℕ, zero, suc, ◌+◌, ◌^◌, ◌<◌, max, Bool, true, false, cond, ◌&&◌, ◌||◌, ◌⊎◌, List, length, Some, None, Ok, Err, Option, Result, ◌==◌, nat_le, nat_lt}
 use Rattle.journal.specs.declared.limits.Limits.{Limits}
 use Rattle.journal.specs.declared.row.Label.{Label}
 use Rattle.journal.specs.declared.fault.JournalFault.{JournalFault}

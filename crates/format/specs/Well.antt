@@ -13,7 +13,7 @@ use Rattle.journal.specs.Meaning.{check_size}
 use Rattle.journal.specs.Calls.{append_answer, appended}
 use Rattle.format.specs.Numbers.{be}
 use Rattle.format.specs.Layout.{head_check_at, row_check_at, page_size, entry_check}
-use Rattle.format.specs.Decode.{page, start_of, count_of, is_free, row_at, offset_of, size_of, used}
+use Rattle.format.specs.Decode.{count_of, is_free, row_at, offset_of, size_of, used}
 use Rattle.format.specs.State.{View, page_in, count_in, start_in, meaning_of, is_sound, Leaves}
 
 pub record Small (l : Limits) : Type 0 where

@@ -1,5 +1,6 @@
 // The archive's inner index: what is kept of each section, by slot, and the handles that name a record in it.
 // Tables of fixed size, none of them on a heap. docs/ARCHITECTURE.md says how a section keeps its chains.
+#![tactic(auto)]
 
 pub mod buckets;
 pub mod handle;

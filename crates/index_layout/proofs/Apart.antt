@@ -1,7 +1,7 @@
 -- What keeps the starts of the slots apart. Assumes nothing.
-use Rattle.std.proofs.Common.{◌≡◌, ℕ, ◌<◌, Bool, true, false, cond, List, [], ◌∷◌, length, get_or, set, sym, refl, ap, ◌∙◌, subst, inl, inr, arith, length-set, get_or-set_other, get_or-set_same}
+use Rattle.std.proofs.Common.{◌≡◌, ℕ, ◌<◌, true, false, List, length, get_or, set, sym, refl, ap, ◌∙◌, inl, inr, arith, length-set, get_or-set_other, get_or-set_same}
 use Rattle.std.proofs.lemmas.Bool.{cases_eq, both_ways}
-use Rattle.index_layout.specs.Views.{View, free_view, open_view, grown, view_at, Holds, Twice, Apart}
+use Rattle.index_layout.specs.Views.{View, free_view, open_view, view_at, Holds, Apart}
 
 -- One slot changed, to a view whose start no other slot holds.
 pub apart_put : (vs : List View) (slot : ℕ) (v : View) → slot < length vs → Apart vs

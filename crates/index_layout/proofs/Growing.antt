@@ -1,7 +1,7 @@
 -- A slot and its lists, when it grows. Assumes nothing.
 --   front_push   the front of a list, one longer
 --   same_view    views with the same lists are the same
-use Rattle.std.proofs.Common.{◌≡◌, ℕ, ◌+◌, ◌<◌, Bool, true, false, cond, ◌&&◌, List, [], ◌∷◌, ◌++◌, length, take, set, sym, refl, ap, ◌∙◌}
+use Rattle.std.proofs.Common.{◌≡◌, ℕ, ◌+◌, ◌<◌, Bool, List, [], ◌∷◌, ◌++◌, length, take, set}
 use Rattle.std.proofs.lemmas.List.{take_more_set}
 use Rattle.index_layout.specs.Views.{View}
 

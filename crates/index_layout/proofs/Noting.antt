@@ -2,11 +2,11 @@
 --   noted_held     a slot holds the start
 --   noted_opened   a free slot was taken for it
 --   noted_shut     none was free
-use Rattle.std.proofs.Common.{◌≡◌, ℕ, ◌+◌, ◌<◌, ◌≤◌, Bool, true, false, cond, ◌&&◌, ◌||◌, eqb, ltb, ◌⊎◌, List, [], ◌∷◌, length, get_or, set, sym, refl, ap, ◌∙◌, subst, inl, inr, arith, length-set, get_or-set_same}
+use Rattle.std.proofs.Common.{◌≡◌, ℕ, ◌<◌, Bool, true, false, cond, ◌&&◌, ◌||◌, eqb, ltb, ◌⊎◌, List, length, set, sym, refl, ap, ◌∙◌, inl, inr, arith, length-set, get_or-set_same}
 use Rattle.std.proofs.lemmas.List.{set-set}
 use Rattle.std.proofs.lemmas.Bool.{cond-true, cond-false, cases_eq, eq-eqb, ne_eqb, and_from, and_left, and_right, or_left, or_right, or_from, both_ways, lt-ltb, le-ltb}
-use Rattle.index_layout.specs.Views.{View, free_view, open_view, grown, takes, view_at, Holds, Apart, slot_count}
-use Rattle.index_layout.specs.Held.{holds, found, total, one, begun, has_room, Noted, Seated, Opened, Shut, Crowded, Absent}
+use Rattle.index_layout.specs.Views.{View, free_view, open_view, grown, takes, view_at, Apart, slot_count}
+use Rattle.index_layout.specs.Held.{holds, found, total, one, begun, has_room, Noted, Seated, Opened, Shut, Crowded}
 use Rattle.index_layout.proofs.Held.{found_at, found_set_other, total_all, total_free}
 use Rattle.index_layout.proofs.Slots.{Home}
 

@@ -3,11 +3,11 @@
 --   start_none, start-some   the start of a slot
 --   best_skip .. best-more, best-end   the search for the first start from a number on
 --   struck_step, struck-end   a strike, slot by slot
-use Rattle.std.proofs.Common.{◌≡◌, ℕ, zero, suc, ◌+◌, ◌<◌, ◌≤◌, Bool, true, false, cond, ltb, ◌≢◌, ◌⊎◌, List, [], ◌∷◌, map, length, get_or, drop, set, is_some, Some, None, Option, sym, refl, ap, ◌∙◌, subst, inl, inr, add-one, arith, get_or-set_other, get_or-set_same, below_more, MatchOption}
+use Rattle.std.proofs.Common.{◌≡◌, ℕ, zero, suc, ◌+◌, ◌<◌, ◌≤◌, true, false, cond, ltb, ◌≢◌, ◌⊎◌, List, [], ◌∷◌, map, length, drop, set, is_some, Some, None, Option, sym, refl, ap, ◌∙◌, subst, inl, inr, arith, get_or-set_other, get_or-set_same, below_more, MatchOption}
 use Rattle.std.proofs.lemmas.List.{length-map, get_or-map, ext_get_or, at_drop_more, at_drop_all}
 use Rattle.std.proofs.lemmas.Bool.{cond-true, cond-false, cond_both, cases_Bool, both_ways}
 use Rattle.index_layout.specs.Views.{View, free_view, kept_view, view_at, first_in, next_in, Holds, slot_count, offset_count}
-use Rattle.index_layout.specs.Held.{holds, found, slot_from, slot_of, start_in, FirstFrom, FirstAt, BestAt, BestBelow}
+use Rattle.index_layout.specs.Held.{holds, found, slot_from, slot_of, start_in, FirstFrom, BestBelow}
 use Rattle.index_layout.proofs.Held.{Nowhere, held_from, held_to}
 
 -- The slot of a start.

@@ -3,7 +3,7 @@
 --   put_view     one of them replaced
 --   add_views    one of them grown, or left; apart-add, apart-open and apart-free: the starts stay apart
 --   strike_none, strike-views, strike-count   one slot of a strike
-use Rattle.std.proofs.Common.{◌≡◌, ℕ, ◌+◌, ◌<◌, ◌≤◌, Bool, true, false, cond, ◌&&◌, ltb, ◌⊎◌, List, [], ◌∷◌, map, length, get_or, set, sym, refl, ap, ◌∙◌, subst, inl, inr, arith, length-set}
+use Rattle.std.proofs.Common.{◌≡◌, ℕ, ◌<◌, ◌≤◌, Bool, true, false, cond, ◌&&◌, ltb, List, map, length, get_or, set, sym, refl, ap, ◌∙◌, subst, arith}
 use Rattle.std.proofs.lemmas.List.{length-map, map-set, get_or-map, get_or_past, set-get_or}
 use Rattle.std.proofs.lemmas.Bool.{cond-true, cond-false}
 use Rattle.index_layout.specs.Views.{View, free_view, open_view, grown, goes, kept_view, view_at, Holds, Apart}

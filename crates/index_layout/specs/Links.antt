@@ -6,7 +6,7 @@
 --   matching xs ys v w n  the last place below n where xs has v and ys has w
 --   fresh xs n            how many places below n have a value that no place before them has
 -- Each link is a function of the list, so no chain of them can run in a ring or lose a place.
-use Rattle.std.specs.Prelude.{ℕ, zero, suc, ◌+◌, Bool, cond, ◌&&◌, List, Some, None, Option, ◌==◌, nat_lt, slice_index}
+use Rattle.std.specs.Prelude.{ℕ, zero, suc, ◌+◌, cond, ◌&&◌, List, Some, None, Option, ◌==◌, nat_lt, slice_index}
 
 abbrev pub linked : ℕ → Option ℕ
 linked zero = None

@@ -1,1 +1,2 @@
 // What the archive's inner index stands for, and what is proved of its links.
+#![tactic(auto)]

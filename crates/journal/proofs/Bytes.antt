@@ -1,5 +1,5 @@
 -- Laws of chunk and put, and of equal parts laid side by side. Assumes nothing.
-use Rattle.std.proofs.Common.{◌≡◌, ℕ, ◌+◌, ◌*◌, ◌<◌, ◌≤◌, List, ◌++◌, length, mul-le-mul_right, add-mul, one-mul, arith, rules}
+use Rattle.std.proofs.Common.{◌≡◌, ℕ, ◌+◌, ◌*◌, ◌<◌, ◌≤◌, List, length, mul-le-mul_right, add-mul, one-mul, arith, rules}
 use Rattle.std.proofs.lemmas.List.{places, same_lists}
 use Rattle.journal.specs.Bytes.{chunk, put}
 

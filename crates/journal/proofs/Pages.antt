@@ -1,10 +1,9 @@
 -- What the sections are, seen from the pages that they lie in, slot by slot. Assumes nothing.
-use Rattle.std.proofs.Common.{◌≡◌, ℕ, zero, suc, ◌+◌, ◌<◌, ◌≤◌, Bool, true, false, cond, not, ltb, ◌⊎◌, List, [], ◌∷◌, ◌++◌, map, length, get_or, set, Some, None, Option, sym, refl, ap, ◌∙◌, subst, inl, inr, ⊎_elim, arith, length-append, length-set}
-use Rattle.std.specs.List.{range_with_len, slice_get, AllByRecursion}
+use Rattle.std.proofs.Common.{◌≡◌, ℕ, suc, ◌<◌, ◌≤◌, true, false, List, [], ◌∷◌, ◌++◌, map, length, get_or, set, Some, None, sym, refl, ap, ◌∙◌, subst, ⊎_elim, arith, length-append, length-set}
+use Rattle.std.specs.List.{range_with_len, AllByRecursion}
 use Rattle.std.proofs.lemmas.List.{same_lists, get_or-set_same, get_or-set_other}
 use Rattle.std.proofs.lemmas.Bool.{cases_eq, cases_lt, lt-ltb, ltb-true, le-ltb, cond-true, cond-false, not_from_true, not_from_false}
 use Rattle.std.proofs.lemmas.List.FromFn.{length-map-range_with_len, get_or-map-range_with_len}
-use Rattle.journal.specs.declared.limits.Limits.{Limits}
 use Rattle.journal.specs.Meaning.{Meaning, Section, Row, is_kept, rows_of, first_from, Rising, Within, Lawful}
 use Rattle.journal.specs.Calls.{placed, any_below, kept_from, no_slot}
 use Rattle.journal.specs.Slots.{Pages, full, sorted, kept_in, vacancy, pruned_slot, Distinct, Alone, Absent, Ready, Grows}

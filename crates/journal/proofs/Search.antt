@@ -1,9 +1,9 @@
 -- The first start and whether a section goes, slot after slot. Assumes nothing.
-use Rattle.std.proofs.Common.{◌≡◌, ℕ, zero, suc, ◌+◌, ◌<◌, ◌≤◌, Bool, true, false, cond, ◌&&◌, ◌||◌, eqb, ltb, leb, ◌⊎◌, length, Some, None, Option, sym, refl, ap, ◌∙◌, subst, inl, inr, ⊎_elim, arith}
+use Rattle.std.proofs.Common.{◌≡◌, ℕ, zero, suc, ◌<◌, ◌≤◌, true, false, eqb, ltb, leb, length, Some, None, Option, sym, refl, ◌∙◌, subst, ⊎_elim, arith}
 use Rattle.std.proofs.lemmas.Bool.{cond_both, eqb-true, eqb-false, ltb-true, ltb-false, leb-true, leb-false, lt-ltb, cases_lt, cases_Bool, or_cases, or_parts, and_parts, and_from, both_ways}
-use Rattle.journal.specs.Meaning.{Section, first_from}
+use Rattle.journal.specs.Meaning.{first_from}
 use Rattle.journal.specs.Calls.{any_below}
-use Rattle.journal.specs.Slots.{Pages, kept_in, Distinct, closer, nearest, first_of, goes, gone_of}
+use Rattle.journal.specs.Slots.{Pages, kept_in, Distinct, closer, first_of, gone_of}
 use Rattle.journal.proofs.Pages.{no_first, first, nothing_below, something_below}
 
 above_zero : (n : ℕ) → (n ≡ 0 → ⊥) → 0 < n

@@ -10,7 +10,7 @@
 --   Distinct, Absent  no two slots share a start; no slot has the section s
 --   Ready f n t s     a row of the section s goes to the slot t
 --   Grows             the slot t has one row more, and no other slot has changed
-use Rattle.std.specs.Prelude.{◌≡◌, ℕ, zero, suc, ◌<◌, Bool, true, false, cond, ◌&&◌, ◌||◌, List, [], ◌∷◌, ◌++◌, map, length, Some, None, Option, ◌==◌, ◌≢◌, nat_le, nat_lt}
+use Rattle.std.specs.Prelude.{◌≡◌, ℕ, zero, suc, ◌<◌, Bool, false, cond, ◌&&◌, ◌||◌, List, [], ◌∷◌, ◌++◌, map, length, Some, None, Option, ◌==◌, ◌≢◌, nat_le, nat_lt}
 use Rattle.std.specs.List.{range_with_len}
 use Rattle.journal.specs.Meaning.{Section, Row}
 

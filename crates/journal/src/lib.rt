@@ -1,4 +1,5 @@
 // A journal by its meaning: what every journal answers and keeps, whatever it is stored in.
+#![tactic(auto)]
 
 ghost use Rattle.journal.specs.Meaning.{Meaning};
 ghost use Rattle.journal.specs.Promises.{TellsLimits, TellsFloor, TellsFirst, TellsCount, Appends, ReadsEntry, ReadsValue, Prunes};

@@ -1,6 +1,6 @@
 -- The flaw of bytes for a kind of w bytes.
 use Rattle.std.specs.Prelude.{◌≡◌, ℕ, false, List, length, is_some, Some, None, Option, ◌==◌, ◌≢◌, refl}
-use Rattle.std.proofs.Common.{◌∙◌, sym, ⊎_elim, arith}
+use Rattle.std.proofs.Common.{⊎_elim, arith}
 use Rattle.std.proofs.lemmas.Bool.{both_ways, cases_Bool, cond-true, cond-false, eq-eqb, eqb-true, ne_eqb}
 use Rattle.keys.specs.Reading.{of_width}
 

@@ -1,4 +1,5 @@
 // Kinds of key, box numbers after ISO 6346, FNV-1a, and the translators of keys.
+#![tactic(auto)]
 
 pub mod box_number;
 pub mod bytes;

@@ -1,4 +1,5 @@
 // The law of whole runs, for whoever goes call by call as for whoever runs many calls at once.
+#![tactic(auto)]
 
 ghost use Rattle.std.specs.Prelude.{List};
 ghost use Rattle.journal.specs.Meaning.{Meaning, Lawful};

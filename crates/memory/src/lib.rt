@@ -1,4 +1,5 @@
 // Memory rows: a journal whose rows lie as records and bytes in slices that it is lent.
+#![tactic(auto)]
 
 mod raw;
 mod tables;

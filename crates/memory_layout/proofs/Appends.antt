@@ -1,5 +1,5 @@
 -- An append, from the facts that the code finds. Assumes nothing.
-use Rattle.std.proofs.Common.{◌≡◌, ℕ, ◌+◌, ◌*◌, ◌^◌, ◌<◌, ◌≤◌, false, leb, List, length, Some, None, Ok, Err, sym, refl, ap, ◌∙◌, subst, arith}
+use Rattle.std.proofs.Common.{◌≡◌, ℕ, ◌+◌, ◌^◌, ◌<◌, ◌≤◌, false, leb, List, length, Some, None, Ok, Err, sym, refl, ap, ◌∙◌, subst, arith}
 use Rattle.std.proofs.lemmas.Bool.{cond_both, leb-true, leb-false}
 use Rattle.journal.specs.declared.row.Label.{Label}
 use Rattle.journal.specs.declared.fault.JournalFault.{JournalFault}
@@ -13,7 +13,7 @@ use Rattle.journal.proofs.Pages as pages-have
 use Rattle.memory_layout.specs.View.{View, Well, Holds, Nowhere, Vacant, AllTaken, Stores, head, pages, limits_of, meaning_of, stored, room_fault}
 use Rattle.memory_layout.proofs.Store.{grows}
 use Rattle.memory_layout.proofs.Keeps.{well_after}
-use Rattle.memory_layout.proofs.Seen.{rows_length, counted, has, absent, distinct, above}
+use Rattle.memory_layout.proofs.Seen.{rows_length, counted, absent, distinct, above}
 
 pub ready_found : (v : View) (t s : ℕ) → Well v → Holds v t s → Ready (pages v) v.slots t s
 ready_found v t s well h = pages-have.ready_found (pages v) v.slots t s (distinct v well) h.slot (counted v t h.taken) h.start

@@ -1,8 +1,8 @@
 -- Empty tables. Assumes nothing.
-use Rattle.std.proofs.Common.{◌≡◌, ℕ, ◌+◌, ◌*◌, ◌^◌, ◌<◌, ◌≤◌, List, [], map, length, get_or, replicate, sym, refl, ap, ◌∙◌, subst, ap₂, arith}
+use Rattle.std.proofs.Common.{◌≡◌, ℕ, ◌+◌, ◌*◌, ◌^◌, ◌<◌, ◌≤◌, List, map, length, get_or, replicate, sym, refl, ap, ◌∙◌, subst, ap₂, arith}
 use lib.ListN.{length-replicate, get_or-replicate}
 use Rattle.std.specs.List.{range_with_len}
-use Rattle.journal.specs.Meaning.{Section, Meaning, cost}
+use Rattle.journal.specs.Meaning.{Section, cost}
 use Rattle.journal.specs.Making.{empty}
 use Rattle.journal.proofs.Pages.{none_kept}
 use Rattle.memory_layout.specs.declared.head.Head.{Head}

@@ -5,7 +5,7 @@ use Rattle.std.proofs.lemmas.List.{get_or-set_same, get_or-set_other}
 use Rattle.std.proofs.lemmas.Bool.{cond_both, ltb-false, cases_lt}
 use Rattle.journal.specs.Meaning.{Section, Row, cost}
 use Rattle.journal.specs.Calls.{kept_from}
-use Rattle.journal.specs.Slots.{kept_in, vacancy, pruned_slot, goes, gone_of}
+use Rattle.journal.specs.Slots.{kept_in, vacancy, goes, gone_of}
 use Rattle.journal.proofs.Pages.{kept_pruned}
 use Rattle.journal.proofs.Search.{gone_is}
 use Rattle.memory_layout.specs.declared.head.Head.{Head}

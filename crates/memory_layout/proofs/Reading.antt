@@ -1,12 +1,10 @@
 -- What a read answers, from the record that the code finds. Assumes nothing.
-use Rattle.std.proofs.Common.{◌≡◌, ℕ, ◌+◌, ◌<◌, ◌≤◌, Bool, true, false, cond, ltb, List, [], ◌∷◌, ◌++◌, length, drop, Some, None, Ok, Err, Option, Result, sym, refl, ap, ◌∙◌, subst, ap₂, arith}
+use Rattle.std.proofs.Common.{◌≡◌, ℕ, ◌+◌, ◌<◌, ◌≤◌, List, ◌++◌, length, drop, Ok, Err, Option, sym, ap, ◌∙◌, arith}
 use Rattle.std.proofs.lemmas.Bool.{cond-true, cond-false, lt-ltb, le-ltb}
 use Rattle.journal.specs.Bytes.{chunk}
 use Rattle.journal.proofs.Bytes.{length_chunk}
-use Rattle.journal.specs.declared.row.Entry.{Entry}
-use Rattle.journal.specs.declared.fault.JournalFault.{JournalFault}
 use Rattle.journal.specs.declared.fault.JournalFault.TheVariants.{Short}
-use Rattle.journal.specs.Meaning.{Row, row_at}
+use Rattle.journal.specs.Meaning.{Row}
 use Rattle.journal.specs.Calls.{entry_answer, entry_fill, entry_read, entry_buffer, value_answer, value_fill, value_read, value_buffer}
 use Rattle.memory_layout.specs.declared.record.RowRecord.{RowRecord}
 use Rattle.memory_layout.specs.View.{View, Lies, meaning_of}

@@ -1,13 +1,13 @@
 -- What the meaning has, seen from the heads. Assumes nothing.
-use Rattle.std.proofs.Common.{◌≡◌, ℕ, zero, suc, ◌+◌, ◌*◌, ◌<◌, ◌≤◌, List, [], ◌∷◌, map, length, Some, None, Option, sym, refl, ap, ◌∙◌, subst, arith}
+use Rattle.std.proofs.Common.{◌≡◌, ℕ, zero, suc, ◌+◌, ◌<◌, ◌≤◌, List, [], map, length, Some, None, refl, ap, ◌∙◌, arith}
 use Rattle.std.specs.List.{range_with_len, slice_get, AllByRecursion}
 use Rattle.std.proofs.lemmas.List.FromFn.{length-map-range_with_len, get_or-map-range_with_len}
 use Rattle.std.proofs.lemmas.Option.{slice_get-get_or, slice_get_past}
-use Rattle.journal.specs.Meaning.{Row, rows_of, row_at, Within, Lawful}
+use Rattle.journal.specs.Meaning.{Row, rows_of, row_at, Lawful}
 use Rattle.journal.specs.Slots.{Distinct, Absent, kept_in}
 use Rattle.journal.proofs.Bytes.{length_chunk}
 use Rattle.journal.proofs.Pages as pages-have
-use Rattle.memory_layout.specs.View.{View, Well, Holds, Nowhere, Lies, head, kept_row, row_of, rows_in, pages, limits_of, meaning_of}
+use Rattle.memory_layout.specs.View.{View, Well, Holds, Nowhere, head, kept_row, row_of, rows_in, pages, meaning_of}
 use Rattle.memory_layout.proofs.Room.{row_within}
 
 module _ (v : View) where

@@ -12,14 +12,14 @@
 --   stored v t ..          the tables with one row more in the slot t
 --   room_fault h n ..      why a slot with the head h takes no value of length n more, or None
 --   Stores, Drops          what an append, and a prune, makes of the tables and answers
-use Rattle.std.specs.Prelude.{◌≡◌, ℕ, ◌+◌, ◌*◌, ◌^◌, ◌<◌, ◌≤◌, max, Bool, cond, List, [], map, length, Some, None, Option, Result, ◌≢◌, nat_le, nat_lt, slice_index_or, slice_set}
+use Rattle.std.specs.Prelude.{◌≡◌, ℕ, ◌+◌, ◌*◌, ◌^◌, ◌<◌, ◌≤◌, Bool, cond, List, map, length, Some, None, Option, Result, ◌≢◌, nat_le, nat_lt, slice_index_or, slice_set}
 use Rattle.std.specs.List.{range_with_len}
 use Rattle.journal.specs.declared.limits.Limits.{Limits}
 use Rattle.journal.specs.declared.row.Label.{Label}
 use Rattle.journal.specs.declared.fault.JournalFault.{JournalFault}
 use Rattle.journal.specs.declared.fault.JournalFault.TheVariants.{RowsFull, BytesFull}
 use Rattle.journal.specs.Bytes.{chunk, put}
-use Rattle.journal.specs.Meaning.{Meaning, Section, Row, sound, cost, cost_of, row_at}
+use Rattle.journal.specs.Meaning.{Meaning, Row, sound, cost, cost_of, row_at}
 use Rattle.journal.specs.Calls.{append_answer, appended, any_below, pruned}
 use Rattle.journal.specs.Slots.{Pages, kept_in}
 use Rattle.memory_layout.specs.declared.record.RowRecord.{RowRecord}

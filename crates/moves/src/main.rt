@@ -1,4 +1,5 @@
 // Answers a script of commands, a line each, from standard input.
+#![tactic(auto)]
 
 mod answer;
 mod command;

@@ -1,6 +1,6 @@
 -- How long the slices of byte pages are.
 --   sizes_of l   the lengths that the limits l ask for; None where no journal may have them
-use Rattle.std.specs.Prelude.{ℕ, ◌*◌, cond, Some, None, Option}
+use Rattle.std.specs.Prelude.{◌*◌, cond, Some, None, Option}
 use Rattle.journal.specs.declared.limits.Limits.{Limits}
 use Rattle.journal.specs.Making.{in_range}
 use Rattle.format.specs.Layout.{page_size}

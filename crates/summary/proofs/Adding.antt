@@ -1,12 +1,11 @@
 -- Adding up the rows of a section, one read after another. Assumes nothing.
-use Rattle.std.proofs.Common.{◌≡◌, ℕ, zero, suc, ◌+◌, ◌-◌, ◌^◌, ◌<◌, ◌≤◌, min, ltb, List, [], ◌∷◌, ◌++◌, length, get_or, take, Some, None, Ok, Err, Option, Result, sym, refl, ap, ◌∙◌, subst, arith}
-use Rattle.std.specs.List.{slice_get}
+use Rattle.std.proofs.Common.{◌≡◌, ℕ, zero, suc, ◌+◌, ◌-◌, ◌^◌, ◌<◌, ◌≤◌, min, List, [], ◌∷◌, length, get_or, take, Ok, Err, Result, sym, ap, ◌∙◌, arith}
 use Rattle.std.proofs.lemmas.List.{take_more, take_all}
 use Rattle.std.proofs.lemmas.Option.{slice_get-get_or}
 use Rattle.std.proofs.lemmas.Bool.{cond-false, le-ltb}
 use Rattle.journal.specs.declared.row.Entry.{Entry}
 use Rattle.journal.specs.declared.fault.JournalFault.{JournalFault}
-use Rattle.journal.specs.Meaning.{Meaning, Row, Lawful, damaged, size, cost, cost_of, row_at, rows_of}
+use Rattle.journal.specs.Meaning.{Meaning, Row, Lawful, damaged, size, cost, cost_of, rows_of}
 use Rattle.journal.specs.Calls.{entry_read, entry_answer, entry_of}
 use Rattle.journal.proofs.Laws.{cost_push}
 use Rattle.journal.proofs.Rows.{rows_cost}

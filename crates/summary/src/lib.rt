@@ -1,4 +1,5 @@
 // A summary of what any journal keeps: for each section its rows and their cost, read row by row.
+#![tactic(auto)]
 
 ghost use Rattle.std.specs.Prelude.{◌≡◌, slice_set};
 ghost use Rattle.summary.specs.Totals.{Adds, Summarises};

@@ -1,6 +1,7 @@
 // Vectors from outside, run through the library: published FNV-1a 32 values of short texts, and container numbers
 // under owner codes in use, whose check digits a separate program reckoned (the first is the example commonly given).
 // Each line of standard input is a kind and a text, and the expected output has the answers from outside.
+#![tactic(auto)]
 
 use keys::fault::KeyFault;
 use keys::fnv::fnv_1a_32;

@@ -1,4 +1,4 @@
-use Rattle.std.proofs.Common.{◌≡◌, ◌≤◌, length, take}
+use Rattle.std.proofs.Common.{◌≡◌, length, take}
 use Rattle.journal.specs.Meaning.{rows_of, cost}
 use Rattle.summary.proofs.section_cost.Given as goal
 

@@ -1,7 +1,5 @@
-use Rattle.std.proofs.Common.{◌≡◌, ℕ, ◌+◌, ◌^◌, ◌≤◌, Ok, Result, sym, refl, ap, ◌∙◌, arith}
-use Rattle.journal.specs.declared.fault.JournalFault.{JournalFault}
+use Rattle.std.proofs.Common.{◌≡◌, ◌+◌, ◌^◌, ◌≤◌, sym, refl, ap, ◌∙◌, arith}
 use Rattle.journal.specs.declared.limits.Limits.{Limits}
-use Rattle.summary.specs.Totals.{Summarises}
 use Rattle.summary.proofs.Laying.{begun, went, at_rest, at_top, at_slots, ended}
 use Rattle.summary.proofs.summary.Goals as goal
 
@@ -11,33 +9,33 @@ loop-i-init g c = (refl, λ o f. (f, begun _ _ (c.limits-slots.ensures.lawful o 
 pub loop-i-preserved : goal.loop-i-preserved
 loop-i-preserved g c =
     let m = g.J.Journal.meaning c.args.journal.now in
-    let a = c.section-cost.ensures in (
+    let a = c.section_cost.ensures in (
       refl,
       λ o f.
           let i = c.loop-i.invariant.1 o f in (
             a.fit o i.0,
-            went m _ _ _ _ _ _ (c.limits-slots.ensures.lawful o f) i.1 (sym c.in-Some.is ∙ c.first-start.ensures.answer o i.0)
-                _ _ _ _ (a.after o i.0) (c.row-count-rows.ensures.answer o i.0) (sym c.in-ok-cost.was ∙ a.answer o i.0) c.place-total.ensures,
+            went m _ _ _ _ _ _ (c.limits-slots.ensures.lawful o f) i.1 (sym c.in-Some.is ∙ c.first_start.ensures.answer o i.0)
+                _ _ _ _ (a.after o i.0) (c.row_count-rows.ensures.answer o i.0) (sym c.in_ok-cost.was ∙ a.answer o i.0) c.place_total.ensures,
           ),
     )
 
-pub returns-in-default : goal.returns-in-default
-returns-in-default g c =
+pub returns-in_default : goal.returns-in_default
+returns-in_default g c =
     let m = g.J.Journal.meaning c.args.journal.now in
     rw c.loop-i.invariant.0 (ended _ _ _ _ _ _ c.loop-i.from c.loop-i.i (λ o f.
     let i = c.loop-i.invariant.1 o f in
-    (i.0, i.1, at_rest m _ _ _ _ _ (c.limits-slots.ensures.lawful o f) i.1 (sym c.in-default.is ∙ c.first-start.ensures.answer o i.0))))
+    (i.0, i.1, at_rest m _ _ _ _ _ (c.limits-slots.ensures.lawful o f) i.1 (sym c.in_default.is ∙ c.first_start.ensures.answer o i.0))))
 
 pub returns-then-start : goal.returns-then-start
 returns-then-start g c =
     let m = g.J.Journal.meaning c.args.journal.now in
-    let a = c.section-cost.ensures in
+    let a = c.section_cost.ensures in
     ended _ _ _ _ _ _ (c.in-Some.start + 1) (c.loop-i.i + 1) (λ o f.
     let i = c.loop-i.invariant.1 o f in
     let lawful = c.limits-slots.ensures.lawful o f in
     let top : c.in-Some.start + 1 ≡ 2 ^ 64 = omega (arith, c.if-start.true) in
-    let w = went m _ _ _ _ _ _ lawful i.1 (sym c.in-Some.is ∙ c.first-start.ensures.answer o i.0)
-    _ _ _ _ (a.after o i.0) (c.row-count-rows.ensures.answer o i.0) (sym c.in-ok-cost.was ∙ a.answer o i.0) c.place-total.ensures in
+    let w = went m _ _ _ _ _ _ lawful i.1 (sym c.in-Some.is ∙ c.first_start.ensures.answer o i.0)
+    _ _ _ _ (a.after o i.0) (c.row_count-rows.ensures.answer o i.0) (sym c.in_ok-cost.was ∙ a.answer o i.0) c.place_total.ensures in
     (a.fit o i.0, w, at_top m _ _ _ _ _ lawful w top))
 
 pub returns : goal.returns

@@ -1,4 +1,4 @@
-use Rattle.std.proofs.Common.{◌≡◌, cond, sym, refl, ap, ◌∙◌, subst, arith}
+use Rattle.std.proofs.Common.{refl, subst, arith}
 use Rattle.index_layout.specs.Views.{view_at}
 use Rattle.index.specs.Slots.{views}
 use Rattle.archive_layout.specs.Keys.{Handled, HandledAt}
@@ -13,8 +13,8 @@ loop-at-init c =
     let b = count_begins v c.args.slot c.args.code c.args.hash c.newest-at.result w c.newest-at.ensures.within in
     (w.handled, b.0, b.1)
 
-pub overflow-add-count : goal.overflow-add-count
-overflow-add-count c =
+pub overflow_add-count : goal.overflow_add-count
+overflow_add-count c =
     let v = view_at (views c.args.index.now) c.args.slot in
     let inv = c.loop-at.invariant in
     let here : HandledAt v c.args.slot c.args.code c.args.hash c.in-Some.handle = subst (Handled v c.args.slot c.args.code c.args.hash) c.in-Some.is inv.0 in

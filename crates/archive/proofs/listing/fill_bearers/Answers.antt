@@ -1,4 +1,4 @@
-use Rattle.std.proofs.Common.{◌≡◌, ℕ, ◌<◌, length, take, None, sym, refl, ap, ◌∙◌, arith}
+use Rattle.std.proofs.Common.{◌≡◌, ◌<◌, length, take, None, sym, ap, ◌∙◌, arith}
 use Rattle.std.proofs.lemmas.List.{take_all}
 use Rattle.archive_layout.specs.Keys.{listed_from}
 use Rattle.archive_layout.proofs.Listing.{fill_more}
@@ -6,17 +6,17 @@ use Rattle.archive_layout.proofs.Searches.{told_of, listed_end, listed_more, lis
 use Rattle.archive.proofs.listing.fill_bearers.Goals as goal
 
 -- No place is left empty.
-pub returns-in-default : goal.returns-in-default
-returns-in-default g c =
+pub returns-in_default : goal.returns-in_default
+returns-in_default g c =
     let m = g.J.Journal.meaning c.args.journal.now in
     let inv = c.loop-i.invariant in
-    let a = c.next-bearer.ensures in
+    let a = c.next_bearer.ensures in
     record {
       fit = λ o f. a.fit o (inv o f).0;
       after = λ o f. a.after o (inv o f).0 ∙ (inv o f).1;
       told = λ o f k width known le.
           let i = inv o f in
-          let e = listed_end k width _ m _ _ _ _ known _ _ (i.2 k width known).0 c.next-bearer.result (told_of m a o i.0 i.1 k width known) c.in-default.is in
+          let e = listed_end k width _ m _ _ _ _ known _ _ (i.2 k width known).0 c.next_bearer.result (told_of m a o i.0 i.1 k width known) c.in_default.is in
           absurd (omega (arith, e, le));
     }
 
@@ -24,15 +24,15 @@ pub loop-i-preserved : goal.loop-i-preserved
 loop-i-preserved g c o f =
     let m = g.J.Journal.meaning c.args.journal.now in
     let i = c.loop-i.invariant o f in
-    let a = c.next-bearer.ensures in (
+    let a = c.next_bearer.ensures in (
       a.fit o i.0,
       a.after o i.0 ∙ i.1,
       λ k width known. (let w = i.2 k width known in
           let t = told_of m a o i.0 i.1 k width known in
           let lt : c.loop-i.i < length c.loop-i.places = omega arith in (
-            listed_more k width _ m _ _ _ _ known _ _ w.0 c.next-bearer.result t c.in-Some.spot c.in-Some.is,
+            listed_more k width _ m _ _ _ _ known _ _ w.0 c.next_bearer.result t c.in-Some.spot c.in-Some.is,
             fill_more c.loop-i.places (listed_from m.sections c.args.key.now None) _ c.loop-i.i c.in-Some.spot.place lt w.1
-                (listed_at k width _ m _ _ _ _ known _ _ w.0 c.next-bearer.result t c.in-Some.spot c.in-Some.is),
+                (listed_at k width _ m _ _ _ _ known _ _ w.0 c.next_bearer.result t c.in-Some.spot c.in-Some.is),
           )),
     )
 

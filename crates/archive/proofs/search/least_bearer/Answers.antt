@@ -1,4 +1,4 @@
-use Rattle.std.proofs.Common.{◌≡◌, ℕ, ◌+◌, ◌^◌, length, sym, refl, ap, ◌∙◌, subst, arith}
+use Rattle.std.proofs.Common.{◌≡◌, ◌+◌, ◌^◌, sym, refl, ◌∙◌, arith}
 use Rattle.std.proofs.lemmas.List.{length-map}
 use Rattle.index.specs.Viewed.{viewed}
 use Rattle.index.specs.Slots.{views}
@@ -9,8 +9,8 @@ use Rattle.archive.proofs.search.least_bearer.Goals as goal
 pub loop-turn-init : goal.loop-turn-init
 loop-turn-init g c o f = (f, refl, λ k width size known. none_passed k width size _ _ _ _ known.fit known.lawful)
 
-pub returns-in-default : goal.returns-in-default
-returns-in-default g c =
+pub returns-in_default : goal.returns-in_default
+returns-in_default g c =
     let m = g.J.Journal.meaning c.args.journal.now in
     let x = c.args.index.now in
     let inv = c.loop-turn.invariant in
@@ -18,15 +18,15 @@ returns-in-default g c =
       fit = λ o f. (inv o f).0;
       after = λ o f. (inv o f).1;
       told = λ o f k width size known.
-          passed_rest k width size m (views x) _ _ _ _ known.fit known.lawful x.apart (length-map x.sections viewed ∙ x.sized) ((inv o f).2 k width size known) c.in-default.ensures.is;
+          passed_rest k width size m (views x) _ _ _ _ known.fit known.lawful x.apart (length-map x.sections viewed ∙ x.sized) ((inv o f).2 k width size known) c.in_default.ensures.is;
     }
 
-pub returns-in-Some-least-in : goal.returns-in-Some-least-in
-returns-in-Some-least-in g c =
+pub returns-in-Some-least_in : goal.returns-in-Some-least_in
+returns-in-Some-least_in g c =
     let m = g.J.Journal.meaning c.args.journal.now in
     let x = c.args.index.now in
     let inv = c.loop-turn.invariant in
-    let a = c.least-in.ensures in
+    let a = c.least_in.ensures in
     let first = c.in-Some.ensures.is in
     record {
       fit = λ o f. a.fit o (inv o f).0;
@@ -35,8 +35,8 @@ returns-in-Some-least-in g c =
           let i = inv o f in
           let p = i.2 k width size known in
           let n = length-map x.sections viewed ∙ x.sized in
-          passed_found k width size m (views x) _ _ _ _ known.fit known.lawful x.apart n p c.in-Some.slot c.in-Some.start first c.in-Some-least-in.place
-          (sym c.in-Some-least-in.is ∙ told_of m a o i.0 i.1 known.lawful k known.coded (shown k width size m (views x) (sought c.args.key.now c.args.after) _ _ _ known.fit known.lawful x.apart n p c.in-Some.slot c.in-Some.start first));
+          passed_found k width size m (views x) _ _ _ _ known.fit known.lawful x.apart n p c.in-Some.slot c.in-Some.start first c.in-Some-least_in.place
+          (sym c.in-Some-least_in.is ∙ told_of m a o i.0 i.1 known.lawful k known.coded (shown k width size m (views x) (sought c.args.key.now c.args.after) _ _ _ known.fit known.lawful x.apart n p c.in-Some.slot c.in-Some.start first));
     }
 
 pub returns-then-start : goal.returns-then-start
@@ -44,7 +44,7 @@ returns-then-start g c =
     let m = g.J.Journal.meaning c.args.journal.now in
     let x = c.args.index.now in
     let inv = c.loop-turn.invariant in
-    let a = c.least-in.ensures in
+    let a = c.least_in.ensures in
     let first = c.in-Some.ensures.is in
     let top : c.in-Some.start + 1 ≡ 2 ^ 64 = omega (arith, c.if-start.true) in
     record {
@@ -55,7 +55,7 @@ returns-then-start g c =
           let p = i.2 k width size known in
           let n = length-map x.sections viewed ∙ x.sized in
           let q = passed_more k width size m (views x) _ _ _ _ known.fit known.lawful x.apart n p c.in-Some.slot c.in-Some.start first
-          (sym c.in-default-least-in.is ∙ told_of m a o i.0 i.1 known.lawful k known.coded (shown k width size m (views x) (sought c.args.key.now c.args.after) _ _ _ known.fit known.lawful x.apart n p c.in-Some.slot c.in-Some.start first)) in
+          (sym c.in_default-least_in.is ∙ told_of m a o i.0 i.1 known.lawful k known.coded (shown k width size m (views x) (sought c.args.key.now c.args.after) _ _ _ known.fit known.lawful x.apart n p c.in-Some.slot c.in-Some.start first)) in
           passed_top k width size m (views x) _ _ _ _ known.fit known.lawful x.apart n q top;
     }
 
@@ -64,14 +64,14 @@ loop-turn-preserved g c o f =
     let m = g.J.Journal.meaning c.args.journal.now in
     let x = c.args.index.now in
     let i = c.loop-turn.invariant o f in
-    let a = c.least-in.ensures in
+    let a = c.least_in.ensures in
     let first = c.in-Some.ensures.is in (
       a.fit o i.0,
       a.after o i.0 ∙ i.1,
       λ k width size known. (let p = i.2 k width size known in
           let n = length-map x.sections viewed ∙ x.sized in
           passed_more k width size m (views x) _ _ _ _ known.fit known.lawful x.apart n p c.in-Some.slot c.in-Some.start first
-          (sym c.in-default-least-in.is ∙ told_of m a o i.0 i.1 known.lawful k known.coded (shown k width size m (views x) (sought c.args.key.now c.args.after) _ _ _ known.fit known.lawful x.apart n p c.in-Some.slot c.in-Some.start first))),
+          (sym c.in_default-least_in.is ∙ told_of m a o i.0 i.1 known.lawful k known.coded (shown k width size m (views x) (sought c.args.key.now c.args.after) _ _ _ known.fit known.lawful x.apart n p c.in-Some.slot c.in-Some.start first))),
     )
 
 pub returns : goal.returns

@@ -1,4 +1,4 @@
-use Rattle.std.proofs.Common.{◌≡◌, ℕ, refl, ap, ◌∙◌, subst}
+use Rattle.std.proofs.Common.{ℕ, refl, ap, ◌∙◌, subst}
 use Rattle.index_layout.specs.Views.{view_at}
 use Rattle.index.specs.Slots.{views}
 use Rattle.archive_layout.specs.Keys.{Handled, HandledAt}

@@ -3,7 +3,7 @@ use Rattle.archive.proofs.search.next_bearer.Goals as goal
 
 pub returns : goal.returns
 returns g c =
-    let a = c.least-bearer.ensures in
+    let a = c.least_bearer.ensures in
     record {
       fit = a.fit;
       after = a.after;

@@ -2,5 +2,5 @@ use Rattle.std.proofs.Common.{arith}
 use Rattle.format.proofs.Slots.{page_ends}
 use Rattle.pages.proofs.layout.set_head.Goals as goal
 
-pub write-head-requires : goal.write-head-requires
-write-head-requires c = rw c.page-size.ensures (omega (arith, page_ends c.args.limits c.args.entries.now c.requires.laid c.args.slot c.requires.slot))
+pub write_head-requires : goal.write_head-requires
+write_head-requires c = rw c.page_size.ensures (omega (arith, page_ends c.args.limits c.args.entries.now c.requires.laid c.args.slot c.requires.slot))

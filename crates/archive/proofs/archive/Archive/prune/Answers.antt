@@ -1,10 +1,10 @@
-use Rattle.std.proofs.Common.{◌≡◌, sym, refl, ap, ◌∙◌, subst}
+use Rattle.std.proofs.Common.{sym, refl, ◌∙◌, subst}
 use Rattle.index.specs.Slots.{views}
 use Rattle.journal.specs.Meaning.{Lawful}
 use Rattle.journal.proofs.Laws.{lawful_pruned}
 use Rattle.archive_layout.specs.Fit.{FitBy}
 use Rattle.archive_layout.proofs.Fits.{fit_pruned}
-use Rattle.archive_layout.proofs.Prunes.{PruneIs, prune_struck}
+use Rattle.archive_layout.proofs.Prunes.{prune_struck}
 use Rattle.archive.specs.Parts.{coding_of}
 use Rattle.archive.specs.Archives.{state_of, Fits}
 use Rattle.archive.proofs.Fitting.{fit_of}
@@ -17,11 +17,11 @@ returns g c =
     let k = coding_of g.T.Translator.translated g.T.Translator.hashed a.translator in
     let b = c.prune.ensures in
     let l = c.in-Some.size in
-    let start = c.section-of-start.result in
+    let start = c.section_of-start.result in
     let m = g.J.Journal.meaning c.prune.new.self in
     let is = λ (o : g.J.Journal.past) (f : Fits g.J.Journal.fits g.J.Journal.meaning g.T.Translator.translated g.T.Translator.hashed g.K.Key.width o a).
-    prune_struck s c.args.min l start c.in-Some.is c.section-of-start.ensures k g.K.Key.width c.strike-struck.result.numbers c.strike-struck.result.records m (views a.index)
-    (sym c.is-reached.ensures ∙ c.if-is-reached.false) (fit_of a l f c.in-Some.is) f.lawful a.index.apart c.strike-struck.ensures.numbers c.strike-struck.ensures.records (b.after o f.journal) in
+    prune_struck s c.args.min l start c.in-Some.is c.section_of-start.ensures k g.K.Key.width c.strike-struck.result.numbers c.strike-struck.result.records m (views a.index)
+    (sym c.is_reached.ensures ∙ c.if-is_reached.false) (fit_of a l f c.in-Some.is) f.lawful a.index.apart c.strike-struck.ensures.numbers c.strike-struck.ensures.records (b.after o f.journal) in
     record {
       fit = λ o f. record {
         journal = b.fit o f.journal;

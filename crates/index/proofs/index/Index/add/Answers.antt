@@ -1,4 +1,4 @@
-use Rattle.std.proofs.Common.{◌≡◌, false, ◌&&◌, sym, refl, ap, ◌∙◌, arith, length-set}
+use Rattle.std.proofs.Common.{◌&&◌, sym, refl, ap, ◌∙◌, arith, length-set}
 use Rattle.index_layout.specs.Views.{View, takes, bucket_of}
 use Rattle.index_layout.proofs.Through.{add_views, apart_add, at_view, past_view}
 use Rattle.index.specs.Viewed.{viewed}
@@ -12,16 +12,12 @@ returns-then-slot-ge16 c =
       views = refl;
     }
 
-pub invariant-of-self : goal.invariant-of-self
-invariant-of-self c =
-    let x = c.args.self.now in (
-      simp length-set (omega arith),
-      (
-        apart_add viewed x.sections c.args.slot c.args.offset c.args.code (bucket_of c.args.hash) c.add.result c.index-all-slot.result c.add.new.self
-            (omega arith) c.add.ensures.view x.apart,
-        tt,
-      ),
-    )
+pub invariant_of-self : goal.invariant_of-self
+invariant_of-self c =
+    let x = c.args.self.now in record {
+      sized = simp length-set (omega arith);
+      apart = apart_add viewed x.sections c.args.slot c.args.offset c.args.code (bucket_of c.args.hash) c.add.result c.index-all-slot.result c.add.new.self (omega arith) c.add.ensures.view x.apart;
+    }
 
 pub returns : goal.returns
 returns c =

@@ -12,8 +12,8 @@ returns-in-Some c =
     let i = c.in-Some.slot in
     let h : Home (views x) c.args.start i = slot_tells (views x) c.args.start (Some i) c.in-Some.ensures.is in
     record {
-      within = c.first-of.ensures.within;
-      is = c.first-of.ensures.is
+      within = c.first_of.ensures.within;
+      is = c.first_of.ensures.is
           ∙ ap (λ (v : View). first_in v c.args.offset) (sym (h.is ∙ at_view viewed x.sections i c.index-self-slot.result (omega (arith, c.in-Some.ensures.below))));
     }
 

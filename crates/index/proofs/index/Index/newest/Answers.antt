@@ -10,14 +10,14 @@ returns-then-slot-ge16 c =
     let x = c.args.self.now in
     record { within = tt; is = sym (ap (λ (v : View). in_slot c.args.slot (newest_in v c.args.code (bucket_of c.args.hash))) (past_view viewed x.sections c.args.slot (omega arith))) }
 
-pub in-slot-requires : goal.in-slot-requires
-in-slot-requires c = (omega arith, c.newest.ensures.few)
+pub in_slot-requires : goal.in_slot-requires
+in_slot-requires c = (omega arith, c.newest.ensures.few)
 
 pub returns : goal.returns
 returns c =
     let x = c.args.self.now in
     record {
-      within = c.in-slot.ensures.parts;
-      is = c.in-slot.ensures.is ∙ ap (in_slot c.args.slot)
+      within = c.in_slot.ensures.parts;
+      is = c.in_slot.ensures.is ∙ ap (in_slot c.args.slot)
           (c.newest.ensures.is ∙ sym (ap (λ (v : View). newest_in v c.args.code (bucket_of c.args.hash)) (at_view viewed x.sections c.args.slot c.index-self-slot.result (omega arith))));
     }

@@ -12,8 +12,8 @@ returns-in-Some c =
     let i = c.in-Some.slot in
     let h : Home (views x) c.args.start i = slot_tells (views x) c.args.start (Some i) c.in-Some.ensures.is in
     record {
-      within = c.next-of.ensures.within;
-      is = c.next-of.ensures.is
+      within = c.next_of.ensures.within;
+      is = c.next_of.ensures.is
           ∙ ap (λ (v : View). next_in v c.args.position) (sym (h.is ∙ at_view viewed x.sections i c.index-self-slot.result (omega (arith, c.in-Some.ensures.below))));
     }
 

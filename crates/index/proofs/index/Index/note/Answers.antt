@@ -20,7 +20,7 @@ returns-in-Some-open c =
     let x = c.args.self.now in
     let n = length_views viewed x.sections 16 x.sized in
     let w = noted_opened (views x) (views c.open.new.self) (views c.add-in-Some-open.new.self) c.in-Some-open.slot c.args.start c.args.offset c.args.code (bucket_of c.args.hash) c.add-in-Some-open.result
-    n (slot_tells (views x) c.args.start None c.in-default.ensures.is).1 c.in-Some-open.ensures.is (omega arith) c.add-in-Some-open.new.self.apart
+    n (slot_tells (views x) c.args.start None c.in_default.ensures.is).1 c.in-Some-open.ensures.is (omega arith) c.add-in-Some-open.new.self.apart
     c.add-in-Some-open.ensures.is c.add-in-Some-open.ensures.views in
     record { is = w.result; starts = w.starts; slots = w.slots; kept = w.kept }
 
@@ -29,5 +29,5 @@ returns-in-None c =
     let x = c.args.self.now in
     let n = length_views viewed x.sections 16 x.sized in
     let w = noted_shut (views x) (views c.open.new.self) c.args.start c.args.offset c.args.code (bucket_of c.args.hash)
-    n (slot_tells (views x) c.args.start None c.in-default.ensures.is).1 c.in-None.ensures.is.0 c.in-None.ensures.is.1 in
+    n (slot_tells (views x) c.args.start None c.in_default.ensures.is).1 c.in-None.ensures.is.0 c.in-None.ensures.is.1 in
     record { is = w.result; starts = w.starts; slots = w.slots; kept = w.kept }

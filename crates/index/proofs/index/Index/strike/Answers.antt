@@ -1,4 +1,4 @@
-use Rattle.std.proofs.Common.{◌≡◌, ◌<◌, ◌≤◌, length, sym, ap, ◌∙◌, arith}
+use Rattle.std.proofs.Common.{◌<◌, ◌≤◌, length, ap, ◌∙◌, arith}
 use Rattle.index_layout.specs.Held.{weight, under, numbers, records}
 use Rattle.index_layout.proofs.Held.{total_step, total_end}
 use Rattle.index_layout.proofs.Through.{length_views}
@@ -15,16 +15,16 @@ loop-i-preserved c =
     let n1 = length_views viewed was.sections 16 was.sized in
     let l : i < length (views was) = omega arith in
     let same = c.loop-i.invariant.1 i (omega arith) in
-    let s = struck_step (views c.loop-i.self) (views c.strike-slot-struck.new.self) (views was) i c.args.min
-    (omega arith) c.strike-slot-struck.ensures.views c.loop-i.invariant.0 c.loop-i.invariant.1 in (
+    let s = struck_step (views c.loop-i.self) (views c.strike_slot-struck.new.self) (views was) i c.args.min
+    (omega arith) c.strike_slot-struck.ensures.views c.loop-i.invariant.0 c.loop-i.invariant.1 in (
       s.0,
       s.1,
-      total_step (under c.args.min numbers) (views was) i c.loop-i.numbers c.strike-slot-struck.result.numbers l
-          (c.strike-slot-struck.ensures.numbers ∙ ap (weight (under c.args.min numbers)) same) c.loop-i.invariant.2,
-      total_step (under c.args.min records) (views was) i c.loop-i.records c.strike-slot-struck.result.records l
-          (c.strike-slot-struck.ensures.records ∙ ap (weight (under c.args.min records)) same) c.loop-i.invariant.3,
-      omega (arith, c.strike-slot-struck.ensures.few, c.loop-i.invariant.4),
-      omega (arith, c.strike-slot-struck.ensures.few, c.loop-i.invariant.5),
+      total_step (under c.args.min numbers) (views was) i c.loop-i.numbers c.strike_slot-struck.result.numbers l
+          (c.strike_slot-struck.ensures.numbers ∙ ap (weight (under c.args.min numbers)) same) c.loop-i.invariant.2,
+      total_step (under c.args.min records) (views was) i c.loop-i.records c.strike_slot-struck.result.records l
+          (c.strike_slot-struck.ensures.records ∙ ap (weight (under c.args.min records)) same) c.loop-i.invariant.3,
+      omega (arith, c.strike_slot-struck.ensures.few, c.loop-i.invariant.4),
+      omega (arith, c.strike_slot-struck.ensures.few, c.loop-i.invariant.5),
     )
 
 pub returns : goal.returns

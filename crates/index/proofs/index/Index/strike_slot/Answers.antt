@@ -4,23 +4,23 @@ use Rattle.index_layout.proofs.Through.{strike_none, strike_views, strike_count,
 use Rattle.index.specs.Viewed.{viewed}
 use Rattle.index.proofs.index.Index.strike_slot.Goals as goal
 
-pub returns-then-not-is-below : goal.returns-then-not-is-below
-returns-then-not-is-below c =
+pub returns-then-not-is_below : goal.returns-then-not-is_below
+returns-then-not-is_below c =
     let x = c.args.self.now in
-    let t = sym c.is-below.ensures ∙ c.if-not-is-below.true in
+    let t = sym c.is_below.ensures ∙ c.if-not-is_below.true in
     let n = strike_none viewed x.sections c.args.slot c.args.min c.index-self-slot.result numbers (omega arith) t in
     let r = strike_none viewed x.sections c.args.slot c.args.min c.index-self-slot.result records (omega arith) t in
     record { views = n.0; numbers = n.1; records = r.1; few = (omega arith, omega arith) }
 
-pub invariant-of-self : goal.invariant-of-self
-invariant-of-self c =
+pub invariant_of-self : goal.invariant_of-self
+invariant_of-self c =
     let x = c.args.self.now in
     (simp length-set (omega arith), (apart_free viewed x.sections c.args.slot c.free.result (omega arith) c.free.ensures x.apart, tt))
 
 pub returns : goal.returns
 returns c =
     let x = c.args.self.now in
-    let t = sym c.is-below.ensures ∙ c.if-not-is-below.false in
+    let t = sym c.is_below.ensures ∙ c.if-not-is_below.false in
     record {
       views = strike_views viewed x.sections c.args.slot c.args.min c.index-self-slot.result c.free.result (omega arith) t c.free.ensures;
       numbers = strike_count viewed x.sections c.args.slot c.args.min c.distinct.result c.index-self-slot.result c.index-self-slot-2.result numbers (omega arith) t c.distinct.ensures.is;

@@ -8,8 +8,8 @@ pub returns : goal.returns
 returns c =
     let n = c.args.self.now.numbers in
     record {
-      within = first_within n.offsets c.args.offset n.count 128 c.first-of.result (omega arith) c.first-of.ensures;
-      is = c.first-of.ensures
+      within = first_within n.offsets c.args.offset n.count 128 c.first_of.result (omega arith) c.first_of.ensures;
+      is = c.first_of.ensures
           ∙ ap linked (sym (earliest_held n.offsets c.args.offset n.count (omega arith)))
           ∙ sym (cond-true (ltb c.args.offset 64) _ None (lt-ltb c.args.offset 64 (omega arith)));
     }

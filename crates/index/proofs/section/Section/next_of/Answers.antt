@@ -12,8 +12,8 @@ returns c =
     let long : n.count ≤ length n.offsets = omega arith in
     let low : p < length (take n.count n.offsets) = omega (arith, length-take-le n.count n.offsets long) in
     record {
-      within = next_within n.offsets p n.count 128 c.next-of.result (omega arith) c.next-of.ensures;
-      is = c.next-of.ensures
+      within = next_within n.offsets p n.count 128 c.next_of.result (omega arith) c.next_of.ensures;
+      is = c.next_of.ensures
           ∙ ap linked (sym (following_held n.offsets p n.count long (omega arith)))
           ∙ sym (cond-true (ltb p (length (take n.count n.offsets))) _ None (lt-ltb p (length (take n.count n.offsets)) low));
     }

@@ -6,10 +6,10 @@ use Rattle.keys.proofs.translator.LeadingTranslator.translate.Goals as goal
 pub loop-i-preserved : goal.loop-i-preserved
 loop-i-preserved c =
     let b = get_or c.args.key.now c.loop-i.i 0 in
-    let l : b < 256 = omega (arith, c.type-inv.key c.loop-i.i) in
-    let g : c.with-byte-number.result < 2 ^ (8 * (c.loop-i.i + 1)) =
-    subst (λ (k : ℕ). k < 2 ^ (8 * (c.loop-i.i + 1))) (sym c.with-byte-number.ensures) (lead_grows c.loop-i.i c.loop-i.number b c.loop-i.invariant.1 l) in
-    (c.with-byte-number.ensures ∙ lead_step c.args.key.now c.count-count.result c.loop-i.i c.loop-i.number b (omega arith) c.loop-i.invariant.0 refl, g)
+    let l : b < 256 = omega (arith, c.type_inv.key c.loop-i.i) in
+    let g : c.with_byte-number.result < 2 ^ (8 * (c.loop-i.i + 1)) =
+    subst (λ (k : ℕ). k < 2 ^ (8 * (c.loop-i.i + 1))) (sym c.with_byte-number.ensures) (lead_grows c.loop-i.i c.loop-i.number b c.loop-i.invariant.1 l) in
+    (c.with_byte-number.ensures ∙ lead_step c.args.key.now c.count-count.result c.loop-i.i c.loop-i.number b (omega arith) c.loop-i.invariant.0 refl, g)
 
 pub returns : goal.returns
 returns c =

@@ -1,4 +1,4 @@
-use Rattle.std.proofs.Common.{sym, refl, ◌∙◌, arith}
+use Rattle.std.proofs.Common.{sym, refl, arith}
 use Rattle.memory.specs.Tables.{view}
 use Rattle.memory_layout.proofs.Appends.{full, has_place, takes}
 use Rattle.memory.proofs.raw.Raw.push.Goals as goal

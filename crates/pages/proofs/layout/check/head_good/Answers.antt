@@ -3,10 +3,10 @@ use Rattle.format.specs.Mount.{head_good}
 use Rattle.format.proofs.Firsts.{none_by}
 use Rattle.pages.proofs.layout.check.head_good.Goals as goal
 
-pub returns-then-head-right : goal.returns-then-head-right
+pub returns-then-head_right : goal.returns-then-head_right
 unfolding head_good
-returns-then-head-right c = let e = none_by _ _ c.is-none.ensures in search rules
+returns-then-head_right c = let e = none_by _ _ c.is_none.ensures in search rules
 
-pub returns-else-head-right : goal.returns-else-head-right
+pub returns-else-head_right : goal.returns-else-head_right
 unfolding head_good
-returns-else-head-right c = search rules
+returns-else-head_right c = search rules

@@ -7,11 +7,11 @@ use Rattle.pages.proofs.layout.check.mount_fault.Goals as goal
 pub returns : goal.returns
 returns c =
     record {
-      answer = c.slots-fault.ensures ∙ sym (cond-true (sized c.args.limits (length c.args.entries.now) (length c.args.values.now)) _ _ (sym c.sized.ensures ∙ c.if-not-sized.false));
-      bytes = λ i. (c.type-inv.entries i).fits;
+      answer = c.slots_fault.ensures ∙ sym (cond-true (sized c.args.limits (length c.args.entries.now) (length c.args.values.now)) _ _ (sym c.sized.ensures ∙ c.if-not-sized.false));
+      bytes = λ i. (c.type_inv.entries i).fits;
     }
 
-pub slots-fault-requires : goal.slots-fault-requires
-slots-fault-requires c =
+pub slots_fault-requires : goal.slots_fault-requires
+slots_fault-requires c =
     laid_is c.args.limits c.args.entries.now (length c.args.values.now)
     (ranged_is c.args.limits (length c.args.entries.now) (length c.args.values.now) (sym c.sized.ensures ∙ c.if-not-sized.false))

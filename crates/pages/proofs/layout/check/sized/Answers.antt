@@ -2,9 +2,9 @@ use Rattle.std.proofs.Common.{rules}
 use Rattle.format.specs.Mount.{sized}
 use Rattle.pages.proofs.layout.check.sized.Goals as goal
 
-pub returns-then-not-in-range : goal.returns-then-not-in-range
+pub returns-then-not-in_range : goal.returns-then-not-in_range
 unfolding sized
-returns-then-not-in-range c = search rules
+returns-then-not-in_range c = search rules
 
 pub returns-then-entries-pages : goal.returns-then-entries-pages
 unfolding sized

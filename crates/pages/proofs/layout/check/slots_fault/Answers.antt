@@ -8,4 +8,4 @@ returns-in-Some c =
     sym (earliest_at (slot_fault c.args.limits c.args.entries.now) c.loop-s.s c.args.limits.slots c.in-Some.f (omega arith) c.loop-s.invariant (sym c.in-Some.ensures))
 
 pub loop-s-preserved : goal.loop-s-preserved
-loop-s-preserved c = earliest_more (slot_fault c.args.limits c.args.entries.now) c.loop-s.s c.loop-s.invariant ∙ sym c.in-default.ensures
+loop-s-preserved c = earliest_more (slot_fault c.args.limits c.args.entries.now) c.loop-s.s c.loop-s.invariant ∙ sym c.in_default.ensures

@@ -10,12 +10,12 @@ returns-then-value-n c = let r = content_short c.args.vals.now c.args.at c.args.
 pub returns-then-check-real : goal.returns-then-check-real
 returns-then-check-real c =
     let r = content_damaged c.args.vals.now c.args.at c.args.n (omega (arith, c.requires)) c.args.section c.args.position c.args.value.now (omega arith)
-    c.read-value-check-check.result c.value-check-real.result c.read-value-check-check.ensures (c.value-check-real.ensures ∙ ap value_check c.part-stored.ensures.part) c.if-check-real.true in
+    c.read_value_check-check.result c.value_check-real.result c.read_value_check-check.ensures (c.value_check-real.ensures ∙ ap value_check c.part-stored.ensures.part) c.if-check-real.true in
     record { answer = r.0; buffer = r.1 }
 
 pub returns : goal.returns
 returns c =
     let r = content_sound c.args.vals.now c.args.at c.args.n (omega (arith, c.requires)) c.args.section c.args.position c.args.value.now (omega arith)
-    c.read-value-check-check.result c.value-check-real.result c.read-value-check-check.ensures (c.value-check-real.ensures ∙ ap value_check c.part-stored.ensures.part) c.if-check-real.false
+    c.read_value_check-check.result c.value_check-real.result c.read_value_check-check.ensures (c.value_check-real.ensures ∙ ap value_check c.part-stored.ensures.part) c.if-check-real.false
     c.write.new.bytes (c.write.ensures ∙ ap (put c.args.value.now 0) c.part-stored.ensures.part) in
     record { answer = r.0; buffer = r.1 }

@@ -7,8 +7,8 @@ use Rattle.pages.proofs.layout.slots.first_from.Goals as goal
 pub loop-s-preserved : goal.loop-s-preserved
 loop-s-preserved c =
     c.nearer-best.ensures
-    ∙ (ap₂ (λ (o : Option ℕ) (n : ℕ). nearest o n c.start-of.result c.args.from) c.loop-s.invariant (c.count-of.ensures ∙ ap count_of c.page-of-page.ensures.page)
-    ∙ (ap (λ (k : ℕ). nearest (first_from c.args.limits c.args.entries.now c.args.from c.loop-s.s) (count_of (page c.args.limits c.args.entries.now c.loop-s.s)) k c.args.from) (c.start-of.ensures ∙ ap start_of c.page-of-page.ensures.page)
+    ∙ (ap₂ (λ (o : Option ℕ) (n : ℕ). nearest o n c.start_of.result c.args.from) c.loop-s.invariant (c.count_of.ensures ∙ ap count_of c.page_of-page.ensures.page)
+    ∙ (ap (λ (k : ℕ). nearest (first_from c.args.limits c.args.entries.now c.args.from c.loop-s.s) (count_of (page c.args.limits c.args.entries.now c.loop-s.s)) k c.args.from) (c.start_of.ensures ∙ ap start_of c.page_of-page.ensures.page)
     ∙ ap (first_from c.args.limits c.args.entries.now c.args.from) (sym (add-one c.loop-s.s))))
 
 pub returns : goal.returns

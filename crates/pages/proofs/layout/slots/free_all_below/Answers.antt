@@ -3,16 +3,16 @@ use Rattle.format.specs.State.{gone_below, pruned_entries}
 use Rattle.format.proofs.Prunes.{laid_on, pruned_more, gone_more, below_same}
 use Rattle.pages.proofs.layout.slots.free_all_below.Goals as goal
 
-pub free-below-went-requires : goal.free-below-went-requires
-free-below-went-requires c =
+pub free_below-went-requires : goal.free_below-went-requires
+free_below-went-requires c =
     record { laid = laid_on c.args.limits c.args.entries.now c.requires c.args.min c.loop-s.s (omega arith) _ c.loop-s.invariant.0; slot = omega arith }
 
 pub loop-s-preserved : goal.loop-s-preserved
 loop-s-preserved c = (
-  pruned_more c.args.limits c.args.entries.now c.requires c.args.min c.loop-s.s (omega arith) _ _ c.loop-s.invariant.0 c.free-below-went.ensures.after,
+  pruned_more c.args.limits c.args.entries.now c.requires c.args.min c.loop-s.s (omega arith) _ _ c.loop-s.invariant.0 c.free_below-went.ensures.after,
   c.either-gone.ensures
       ∙ gone_more c.args.limits c.args.entries.now c.requires c.args.min c.loop-s.s _ _ c.loop-s.invariant.1
-      (c.free-below-went.ensures.answer ∙ below_same c.args.limits c.args.entries.now c.requires c.args.min c.loop-s.s (omega arith) _ c.loop-s.invariant.0),
+      (c.free_below-went.ensures.answer ∙ below_same c.args.limits c.args.entries.now c.requires c.args.min c.loop-s.s (omega arith) _ c.loop-s.invariant.0),
 )
 
 pub returns : goal.returns

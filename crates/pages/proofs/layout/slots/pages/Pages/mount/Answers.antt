@@ -4,13 +4,12 @@ use Rattle.format.specs.State.{is_sound, offered, View, meaning_of, mounted}
 use Rattle.format.proofs.Makes.{made_sound, made_meaning}
 use Rattle.pages.proofs.layout.slots.pages.Pages.mount.Goals as goal
 
-pub invariant-of-result : goal.invariant-of-result
+pub invariant_of-result : goal.invariant_of-result
 unfolding mounted
-invariant-of-result c = (
-  subst (λ (l : Limits). is_sound (offered l c.args.entries.now c.args.values.now) ≡ true) (sym c.granted-limits.ensures.answer)
-      (made_sound c.args.limits c.args.entries.now c.args.values.now c.granted-limits.ensures.bytes),
-  tt,
-)
+invariant_of-result c = record {
+  sound = subst (λ (l : Limits). is_sound (offered l c.args.entries.now c.args.values.now) ≡ true) (sym c.granted-limits.ensures.answer)
+      (made_sound c.args.limits c.args.entries.now c.args.values.now c.granted-limits.ensures.bytes);
+}
 
 pub returns : goal.returns
 unfolding mounted

@@ -3,8 +3,8 @@ use Rattle.pages.proofs.layout.slots.pages.calls.PagesJournal.append.Goals as go
 pub append-requires : goal.append-requires
 append-requires c = c.args.self.now.sound
 
-pub invariant-of-self : goal.invariant-of-self
-invariant-of-self c = (c.append.ensures.sound, tt)
+pub invariant_of-self : goal.invariant_of-self
+invariant_of-self c = record { sound = c.append.ensures.sound }
 
 pub returns : goal.returns
 returns c =

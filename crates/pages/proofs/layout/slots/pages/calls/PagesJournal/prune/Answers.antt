@@ -8,8 +8,8 @@ use Rattle.pages.proofs.layout.slots.pages.calls.PagesJournal.prune.Goals as goa
 pub prune-requires : goal.prune-requires
 prune-requires c = sound_well (view c.args.self.now.raw) c.args.self.now.sound
 
-pub invariant-of-self : goal.invariant-of-self
-invariant-of-self c = (subst (λ (v : View). is_sound v ≡ true) (sym c.prune.ensures.after) (sound_pruned (view c.args.self.now.raw) c.args.min c.args.self.now.sound), tt)
+pub invariant_of-self : goal.invariant_of-self
+invariant_of-self c = record { sound = subst (λ (v : View). is_sound v ≡ true) (sym c.prune.ensures.after) (sound_pruned (view c.args.self.now.raw) c.args.min c.args.self.now.sound) }
 
 pub returns : goal.returns
 returns c =

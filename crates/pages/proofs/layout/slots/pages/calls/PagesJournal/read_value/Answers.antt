@@ -3,12 +3,12 @@ use Rattle.format.proofs.Mounting.{sound_well}
 use Rattle.pages.specs.Raws.{view}
 use Rattle.pages.proofs.layout.slots.pages.calls.PagesJournal.read_value.Goals as goal
 
-pub read-value-requires : goal.read-value-requires
-read-value-requires c = sound_well (view c.args.self.now.raw) c.args.self.now.sound
+pub read_value-requires : goal.read_value-requires
+read_value-requires c = sound_well (view c.args.self.now.raw) c.args.self.now.sound
 
 pub returns : goal.returns
 returns c =
     record {
-      promise = record { fit = λ o f. f; answer = λ o f. c.read-value.ensures.answer; after = λ o f. refl; buffer = λ o f. c.read-value.ensures.buffer };
+      promise = record { fit = λ o f. f; answer = λ o f. c.read_value.ensures.answer; after = λ o f. refl; buffer = λ o f. c.read_value.ensures.buffer };
       bytes = refl;
     }
