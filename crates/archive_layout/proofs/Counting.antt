@@ -194,7 +194,7 @@ drop_head [] (suc n) x xs e = let z : ◌≡◌ {A = ℕ} 0 1 = cc in absurd (om
 drop_head (z ∷ zs) zero x xs e = let a : z ≡ x = cc in let b : zs ≡ xs = cc in (a, b)
 drop_head (z ∷ zs) (suc n) x xs e = drop_head zs n x xs e
 
--- a value's first place is not none: it is is-in those seen
+-- a value's first place is not none: it is is_in those seen
 abbrev Seen : List ℕ → ℕ → List ℕ → Type 0
 Seen zs n ds = (y : ℕ) → is_in y ds ≡ not (eqb (earliest zs y n) 0)
 

@@ -1,14 +1,14 @@
 -- When the slots of an index fit the sections of a journal.
 --   Coding             what an archive's translator makes of key bytes: a translated key, and the hash of that
 --   offset_of s r      how far the number of the row r is from the start s of its section
---   code_of, bucket-by the row's translated key, and its bucket
+--   code_of, bucket_by the row's translated key, and its bucket
 --   full_view k s rs   the slot that the rows rs make as the section that starts at s
 --   expected k s rs    the same, and a free slot where there are no rows
 --   Agree k vs xs      start by start, the slots vs hold just what the sections xs keep
 --   Homed l x          each row's number belongs to the section x
 --   Fit                what an archive that is loaded rests on, beside its journal: sizes within the limits, rows in their
 --                      sections, and the index that of the journal's rows, and of nothing else
---   FitBy             the same by whether the archive is loaded: before a load nothing is indexed
+--   FitBy              the same by whether the archive is loaded: before a load nothing is indexed
 use Rattle.std.specs.Prelude.{◌≡◌, ℕ, ◌-◌, ◌<◌, ◌≤◌, true, List, [], ◌∷◌, map, Some, None, Option}
 use Rattle.std.specs.List.{AllByRecursion}
 use Rattle.journal.specs.Meaning.{Meaning, Section, Row, rows_of}

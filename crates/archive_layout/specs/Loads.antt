@@ -1,10 +1,10 @@
 -- What a load does row by row, while it fills an index that was empty.
 --   with_part ys s rs   the sections ys, and behind them the rows rs so far of the section s
---   IndexesRow         what taking one row into the index answers and does
---   SectionReady       what taking the rows of a section rests on: the sections ys, all before it, are in the index
---   IndexesSection     what that answers and does
---   IndexReady         what taking all sections rests on
---   IndexesAll         what that answers and does
+--   IndexesRow          what taking one row into the index answers and does
+--   SectionReady        what taking the rows of a section rests on: the sections ys, all before it, are in the index
+--   IndexesSection      what that answers and does
+--   IndexReady          what taking all sections rests on
+--   IndexesAll          what that answers and does
 use Rattle.std.specs.Prelude.{◌≡◌, ℕ, ◌<◌, ◌≤◌, true, List, [], ◌∷◌, ◌++◌, length, None, Result}
 use Rattle.std.specs.List.{AllByRecursion}
 use Rattle.journal.specs.Meaning.{Meaning, Section, Row, rows_of, Rising}

@@ -3,7 +3,7 @@
 --   rest t s rs p      the records of the section s, with the rows rs, from position p on that pass the test t
 --   from_link o n      the position that a link names; n, the end, where there is none
 --   below_link o       one more than that; 0 where there is none
---   WalksNumber       how far a walk along the records of a number has come
+--   WalksNumber        how far a walk along the records of a number has come
 use Rattle.std.specs.Prelude.{◌≡◌, ℕ, ◌+◌, Bool, List, ◌++◌, length, drop, Some, None, Option}
 use Rattle.std.specs.List.{slice_get}
 use Rattle.journal.specs.Meaning.{Row}

@@ -4,7 +4,7 @@
 --   find_slot xs s p    the first copy of that row in xs, or None
 --   held xs s p         whether xs has a copy of that row
 --   forgotten n x       what a prune by n leaves of a place
---   hit_answer, hit-fill   the answer of a read from a copy, and its buffer afterwards
+--   hit_answer, hit_fill   the answer of a read from a copy, and its buffer afterwards
 --   padding w key       the first w bytes of key, over the front of 32 zeros
 --   copy_of s p e w key the copy of a row at its place, by its entry and a buffer that its key is the front of
 use Rattle.std.specs.Prelude.{ℕ, Bool, true, false, cond, ◌&&◌, List, [], ◌∷◌, ◌++◌, length, take, drop, replicate, is_some, Some, None, Ok, Err, Option, Result, ◌==◌, nat_lt}

@@ -1,10 +1,10 @@
 -- What bytes mean. Total: any bytes give sections.
---   page_place l s, vals-place l s   where the slot s begins among the entries and among the values
+--   page_place l s, vals_place l s   where the slot s begins among the entries and among the values
 --   page l es s, vals l vs s   the bytes of the slot s among the entries and among the values, under the limits l
 --   start_of p, count_of p     the start and the row count in a page's header
 --   is_free p                  whether a page's header is of zeros alone
 --   row_at w p r               the bytes of the row r of a page
---   label_of, key_of, offset-of, size_of   the fields of a row's bytes
+--   label_of, key_of, offset_of, size_of   the fields of a row's bytes
 --   length_of w b              the length of the value of a row: what its size leaves beside the check
 --   content_of vs a n          the n bytes at the place a of a slot's values: sound where their check stands behind them
 --   used w p r                 what the first r rows of a page take of its values: where the next value lies

@@ -1,15 +1,15 @@
 -- Where each field lies, and the bytes that are written: one definition for each place, size and check.
 --   head_size                the bytes of a page's header
---   count_at, head-check-at  where its row count and its check lie; its start lies in front
+--   count_at, head_check_at  where its row count and its check lie; its start lies in front
 --   key_at                   where a row's key lies; its label lies in front
 --   front_size w             the bytes of a row's label and key, where keys have w bytes
---   offset_at, size-at, row-check-at   where a row's other fields lie, each behind the one before
+--   offset_at, size_at, row_check_at   where a row's other fields lie, each behind the one before
 --   row_size w               the bytes of a row
 --   row_place w r            where the row r lies in its page
 --   page_size rows w         the bytes of a page among the entries: its header, then room for its rows
 --   entry_check bs           the check of a header or of a row, over the bytes before it
---   value_check bs           the check of a value, in check-size bytes
---   head_bytes, row-bytes    a header and a row as they are written
+--   value_check bs           the check of a value, in check_size bytes
+--   head_bytes, row_bytes    a header and a row as they are written
 --   value_bytes v            a value as it is written, its check behind it
 --   free_head                the header of a free page
 use Rattle.std.specs.Prelude.{ℕ, ◌+◌, ◌*◌, List, ◌++◌, replicate}

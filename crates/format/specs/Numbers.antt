@@ -1,6 +1,6 @@
 -- Numbers in bytes, the highest byte first.
 --   be bs          the number that the bytes bs write
---   be_4 n, be-8 n the four and the eight bytes that write n
+--   be_4 n, be_8 n the four and the eight bytes that write n
 use Rattle.std.specs.Prelude.{ℕ, ◌+◌, ◌*◌, ◌/◌, ◌%◌, List, [], ◌∷◌, fold}
 
 abbrev pub be : List ℕ → ℕ

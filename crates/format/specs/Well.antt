@@ -1,6 +1,6 @@
--- What the code of byte pages rests on, as facts: each follows from is-sound.
+-- What the code of byte pages rests on, as facts: each follows from is_sound.
 --   Laid l es     the limits are small, and the entries hold a page for each slot
---   RowFits       what row-fits tells
+--   RowFits       what row_fits tells
 --   GoodPage l p  a page that a mounting accepts, as to its header's check and its rows
 --   Well v        byte pages between calls
 --   Stores        what an append makes of byte pages and answers

@@ -4,7 +4,7 @@
 --   found_none       what no slot holds is found free
 --   found_set_other  another slot's change is not seen
 --   found_kept       what a strike leaves, by start
---   total_set        one slot changed; total-none, total-all, total-step and total-end go through the slots
+--   total_set        one slot changed; total_none, total_all, total_step and total_end go through the slots
 use Rattle.std.proofs.Common.{◌≡◌, ℕ, zero, suc, ◌+◌, ◌<◌, ◌≤◌, Bool, true, false, cond, eqb, ltb, ◌⊎◌, List, [], ◌∷◌, map, length, get_or, drop, set, sym, refl, ap, ◌∙◌, inl, inr, ⊎_elim, arith}
 use Rattle.std.proofs.lemmas.List.{drop_more, drop_all}
 use Rattle.std.proofs.lemmas.Bool.Decides.{nat_tests}

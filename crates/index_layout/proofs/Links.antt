@@ -1,11 +1,11 @@
 -- The chains of a bucket: what a record more makes of the heads and links, and a walk along one. Assumes nothing.
---   latest_le, latest-fix    a link names a place below, and a link that is walked to is its own last one
+--   latest_le, latest_fix    a link names a place below, and a link that is walked to is its own last one
 --   at_link                  the place that a link names has the value
---   heads_push, links-push   heads and links after a record more
+--   heads_push, links_push   heads and links after a record more
 --   matching_latest          a search begins at the chain's head
 --   matching_here, -down     one step of a search
 --   matching_held            a search over the front of the lists
---   newest_held, older-held  what a search in a slot answers, over the fronts of the lists
+--   newest_held, older_held  what a search in a slot answers, over the fronts of the lists
 use Rattle.std.proofs.Common.{◌≡◌, ℕ, zero, suc, ◌+◌, ◌-◌, ◌<◌, ◌≤◌, Bool, true, false, cond, ◌&&◌, eqb, ltb, ◌≢◌, List, length, get_or, take, set, IfSome, Some, None, Option, sym, refl, ap, ◌∙◌, inl, inr, add-one, arith, get_or-set_other, get_or-take, get_or-set_same}
 use Rattle.std.proofs.lemmas.List.{length-take-le}
 use Rattle.std.proofs.lemmas.Bool.{eq-eqb, ne_eqb, lt-ltb, ltb-true, and_parts, cases_eq, cond-true, cond-false, cond_both, cases_Bool, eqb-true}

@@ -4,8 +4,8 @@
 --   firsts_new, -again  first positions after a record more, of an offset that is new, or that is not
 --   nexts_new, -again   next positions after it
 --   fresh_new, -again   how many offsets there are after it
---   earliest_held, following-held, fresh-held   the same over the front of the list
---   first_within, next-within   where the answers lie
+--   earliest_held, following_held, fresh_held   the same over the front of the list
+--   first_within, next_within   where the answers lie
 use Rattle.std.proofs.Common.{◌≡◌, ℕ, zero, suc, ◌+◌, ◌<◌, ◌≤◌, Bool, true, false, cond, ◌&&◌, eqb, ltb, ◌⊎◌, List, length, get_or, take, set, IfSome, Option, sym, refl, ap, ◌∙◌, subst, inl, inr, add-one, arith, length-set, get_or-set_other, get_or-take, get_or-set_same}
 use Rattle.std.proofs.lemmas.List.{length-take-le}
 use Rattle.std.proofs.lemmas.Bool.{eq-eqb, ne_eqb, lt-ltb, le-ltb, cases_eq, cond-true, cond-false, cond_both, cases_Bool, eqb-true, ltb-true, and_parts, and_right, and_from}

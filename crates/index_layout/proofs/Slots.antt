@@ -1,8 +1,8 @@
 -- Going through the slots. Assumes nothing.
---   slot_here, slot_next, slot-end   the search for a start, and slot-tells what its answer says
---   start_none, start-some   the start of a slot
---   best_skip .. best-more, best-end   the search for the first start from a number on
---   struck_step, struck-end   a strike, slot by slot
+--   slot_here, slot_next, slot_end   the search for a start, and slot_tells what its answer says
+--   start_none, start_some   the start of a slot
+--   best_skip .. best_more, best_end   the search for the first start from a number on
+--   struck_step, struck_end   a strike, slot by slot
 use Rattle.std.proofs.Common.{◌≡◌, ℕ, zero, suc, ◌+◌, ◌<◌, ◌≤◌, true, false, cond, ltb, ◌≢◌, ◌⊎◌, List, [], ◌∷◌, map, length, drop, set, is_some, Some, None, Option, sym, refl, ap, ◌∙◌, subst, inl, inr, arith, get_or-set_other, get_or-set_same, below_more, MatchOption}
 use Rattle.std.proofs.lemmas.List.{length-map, get_or-map, ext_get_or, at_drop_more, at_drop_all}
 use Rattle.std.proofs.lemmas.Bool.{cond-true, cond-false, cond_both, cases_Bool, both_ways}

@@ -1,8 +1,8 @@
 -- A list of structs by what each stands for: f gives the view of one. Assumes nothing.
 --   at_view      one of them, by its view; d is whatever default the goal has
 --   put_view     one of them replaced
---   add_views    one of them grown, or left; apart-add, apart-open and apart-free: the starts stay apart
---   strike_none, strike-views, strike-count   one slot of a strike
+--   add_views    one of them grown, or left; apart_add, apart_open and apart_free: the starts stay apart
+--   strike_none, strike_views, strike_count   one slot of a strike
 use Rattle.std.proofs.Common.{◌≡◌, ℕ, ◌<◌, ◌≤◌, Bool, true, false, cond, ◌&&◌, ltb, List, map, length, get_or, set, sym, refl, ap, ◌∙◌, subst, arith}
 use Rattle.std.proofs.lemmas.List.{length-map, map-set, get_or-map, get_or_past, set-get_or}
 use Rattle.std.proofs.lemmas.Bool.{cond-true, cond-false}

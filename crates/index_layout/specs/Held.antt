@@ -2,8 +2,8 @@
 --   holds s v           whether the slot v holds the section that starts at s
 --   found vs s          the slot that holds s, or a free one
 --   slot_of vs s        which slot that is; the first one
---   FirstFrom vs n r   r is the slot with the first start at or above n, with that start, or none
---   BestBelow vs n k   the same among the slots below k
+--   FirstFrom vs n r    r is the slot with the first start at or above n, with that start, or none
+--   BestBelow vs n k    the same among the slots below k
 --   Crowded vs s        no slot holds s, and none is free
 --   Opened vs vs' s i   the slot i was free, and is taken for s, which no slot held
 --   Shut vs s           a slot holds s, or none is free

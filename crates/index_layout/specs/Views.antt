@@ -1,14 +1,14 @@
 -- A slot of the index as the archive sees it.
 --   View               whether the slot is used, where its section starts, and by position the offset of each record's number
 --                      from the start, its translated key and its bucket
---   slot_count         how many slots there are; row_count and offset-count are what one holds at most
+--   slot_count         how many slots there are; row_count and offset_count are what one holds at most
 --   bucket_of h        the bucket of the hash h
 --   free_view          a free slot
 --   open_view s        a slot just taken for the section that starts at s
 --   grown v o c b      the slot v with one record more
 --   takes v o          whether the slot v has room for one record more, of the offset o
---   first_in v o       the first position of the offset o; next-in v p is the next position with the offset of position p
---   newest_in v c b    the last position with the translated key c, in the bucket b; older-in v c b p is the last one before p
+--   first_in v o       the first position of the offset o; next_in v p is the next position with the offset of position p
+--   newest_in v c b    the last position with the translated key c, in the bucket b; older_in v c b p is the last one before p
 --   kept_view m v      what a strike by the minimum m leaves of the slot v
 --   view_at vs i       the slot i of vs
 --   Holds vs i s       the slot i of vs holds the section that starts at s

@@ -2,12 +2,12 @@
 --   placed xs s r             the sections with the row r behind those of the section s, or in a section of its own
 --   append_fault m s k v      why an append is refused, the first reason in its order, or None
 --   append_answer, appended   an append's answer, and the meaning after it
---   entry_read, entry-buffer  the answer of reading an entry, and the buffer after it
---   value_read, value-buffer  the same of reading a value
+--   entry_read, entry_buffer  the answer of reading an entry, and the buffer after it
+--   value_read, value_buffer  the same of reading a value
 --   kept_from xs n            the sections of xs that start at or above n
 --   any_below xs n            whether a section of xs starts below n
 --   pruned m n                the meaning after a prune by n
---   row_read, row-buffer      the answer of reading a whole row, a refusal by its parts, and the value's buffer after it
+--   row_read, row_buffer      the answer of reading a whole row, a refusal by its parts, and the value's buffer after it
 -- A function by cases takes what it is by cases on as an argument, so that a fact about that can be put to use.
 use Rattle.std.specs.Prelude.{ℕ, ◌+◌, max, Bool, true, false, cond, not, List, [], ◌∷◌, ◌++◌, length, drop, Some, None, Ok, Err, Option, Result, ◌==◌, nat_lt}
 use Rattle.keys.specs.declared.fault.FaultParts.{FaultParts}

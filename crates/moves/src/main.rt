@@ -13,6 +13,8 @@ use command::{Command, JournalCall, Misread, Question};
 use journal::Journal;
 use journal::limits::NOTHING;
 use journal::row::Label;
+use keys::box_number::BoxNumber;
+use keys::digest::Digest;
 use keys::fnv::fnv_1a_32;
 use keys::kind::Key;
 use keys::translator::{AnyTranslator, Translator};
@@ -43,7 +45,7 @@ fn from_hex(heap: Global, text: &str) -> Result<Vec<u8>, Stop> {
 }
 
 fn read_box(text: &str) -> Result<Answer<'_>, Stop> {
-    let mut number = <keys::box_number::BoxNumber as Key>::first();
+    let mut number = BoxNumber::first();
     number.read(text.as_bytes())?;
     Ok(Answer::Box {
         number: text,
@@ -54,7 +56,7 @@ fn read_box(text: &str) -> Result<Answer<'_>, Stop> {
 
 fn read_digest<'a>(heap: Global, text: &str) -> Result<Answer<'a>, Stop> {
     let bytes = from_hex(heap, text)?;
-    let mut digest = <keys::digest::Digest as Key>::first();
+    let mut digest = Digest::first();
     digest.read(bytes.as_slice())?;
     let mut out = [0; 32];
     digest.copy_to(&mut out);
@@ -82,11 +84,11 @@ fn translated<'a>(by: AnyTranslator, key: &[u8]) -> Answer<'a> {
 fn translate<'a>(heap: Global, by: AnyTranslator, key: &str) -> Result<Answer<'a>, Stop> {
     if key.len() == 64 && is_hex(key) {
         let bytes = from_hex(heap, key)?;
-        let mut digest = <keys::digest::Digest as Key>::first();
+        let mut digest = Digest::first();
         digest.read(bytes.as_slice())?;
         return Ok(translated(by, bytes.as_slice()));
     }
-    let mut number = <keys::box_number::BoxNumber as Key>::first();
+    let mut number = BoxNumber::first();
     number.read(key.as_bytes())?;
     Ok(translated(by, key.as_bytes()))
 }

@@ -2,13 +2,13 @@
 --   if_loaded o f        f of the section size, or the refusal of a call before any load
 --   load_fault           why a load is refused, the first reason in its order, or None
 --   load_answer          how many records a load finds; load_after is the state after it
---   put_answer           multi: a put that does not ask whether a record has the number; put-after is the state after it
---   prune_answer         prune-after is the state after it
---   get_number_answer    with get-number-buffer: the earliest record that bears a number
---   GetsKey             a get by key: the answer and the buffer are those of some bearer
---   get_place_answer     with get-place-buffer: the record at a place
+--   put_answer           multi: a put that does not ask whether a record has the number; put_after is the state after it
+--   prune_answer         prune_after is the state after it
+--   get_number_answer    with get_number_buffer: the earliest record that bears a number
+--   GetsKey              a get by key: the answer and the buffer are those of some bearer
+--   get_place_answer     with get_place_buffer: the record at a place
 --   has_answer s t       whether a kept record passes the test t
---   list_number_answer   with list-places: the listing of the records that pass a test
+--   list_number_answer   with list_places: the listing of the records that pass a test
 --   list_key_answer      the same with the count of candidates
 --   counts_answer        records, different numbers and floor
 use Rattle.std.specs.Prelude.{◌≡◌, ℕ, Bool, true, false, cond, not, ◌&&◌, ◌||◌, ◌⊎◌, List, [], ◌∷◌, ◌++◌, length, drop, Some, None, Ok, Err, Option, Result, ◌==◌, nat_le, nat_lt}

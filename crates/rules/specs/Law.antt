@@ -4,11 +4,11 @@
 --   Alike m b h k     the histories h and k answer alike, call by call, save where a call is open; b is the book before h
 --   row_put h         the row that a put of either kind hands in
 --   Exchange          two neighbouring accepted puts into different sections may change places
---   NoTrace          a refused call leaves its buffers, and everything after it, as if it had not been made
---   StaysListed      what was stored is listed until a prune strikes it
---   StaysAway        a number that a prune struck is absent ever after
---   AddsUp           a listing by number has as many places as rows with the number came, less those struck
---   GoesOn           the run can go on with any call
+--   NoTrace           a refused call leaves its buffers, and everything after it, as if it had not been made
+--   StaysListed       what was stored is listed until a prune strikes it
+--   StaysAway         a number that a prune struck is absent ever after
+--   AddsUp            a listing by number has as many places as rows with the number came, less those struck
+--   GoesOn            the run can go on with any call
 --   Law               all of it
 use Rattle.std.specs.Prelude.{◌≡◌, ℕ, ◌+◌, ◌<◌, ◌≤◌, Bool, true, false, cond, ◌⊎◌, List, [], ◌∷◌, ◌++◌, map, length, Some, None, Ok, Err, Option, ◌==◌, nat_lt}
 use Rattle.std.specs.List.{AllByRecursion}
@@ -169,7 +169,7 @@ GoesOn kind t = (h : Handed) → (a : Answer) × Answers kind t h a
 --   repeats        whoever makes the same calls over a journal of that meaning, of whatever type, is answered alike
 --   exchange       and so is whoever makes two puts the other way round
 --   no_trace       a refusal leaves none
---   stays_listed, stays-away, adds-up, goes_on   what keeps the words above from being empty
+--   stays_listed, stays_away, adds_up, goes_on   what keeps the words above from being empty
 pub record Law (kind : Kind) (m : Meaning) (h : List Event) (t : State) : Type 0 where
   pub by_the_rules : Follows kind (new m) h t
   pub told : Every m h (λ b e. Told kind m b e.asked e.answer)

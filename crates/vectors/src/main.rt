@@ -3,13 +3,14 @@
 // Each line of standard input is a kind and a text, and the expected output has the answers from outside.
 #![tactic(auto)]
 
+use keys::box_number::BoxNumber;
 use keys::fault::KeyFault;
 use keys::fnv::fnv_1a_32;
 use keys::kind::Key;
 use std::io;
 
 fn main(rt: HostRuntime) -> io::Result<()> {
-    let mut number = <keys::box_number::BoxNumber as Key>::first();
+    let mut number = BoxNumber::first();
     for line in rt.lines(rt.alloc()) {
         let line = line?;
         let (kind, text) = line.as_str().split_once(' ').unwrap_or(("", ""));
