@@ -6,7 +6,7 @@ use Rattle.std.proofs.ByRecursion.{All-from_get_or}
 use Rattle.std.specs.List.{range_with_len, AllByRecursion}
 use Rattle.journal.specs.declared.limits.Limits.{Limits}
 use Rattle.journal.specs.Bytes.{chunk}
-use Rattle.journal.specs.Meaning.{sound, damaged, Row, check_size, size, cost, rows_of, first_from as first-kept, Lawful}
+use Rattle.journal.specs.Meaning.{sound, damaged, Row, check_size, size, cost, rows_of, first_from as first_kept, Lawful}
 use Rattle.journal.specs.Slots.{nearest, first_of, Distinct, Absent}
 use Rattle.journal.proofs.Bytes.{length_chunk, step_le}
 use Rattle.journal.proofs.Laws.{cost_push}
@@ -129,7 +129,7 @@ first_slots : (v : View) (from n : ℕ) → first_from v.limits v.entries from n
 first_slots v from zero = refl
 first_slots v from (suc n) = ap₂ (λ (o : Option ℕ) (c : ℕ). nearest o c (start_in v n) from) (first_slots v from n) (sym (rows_length v n))
 
-pub first_meant : (v : View) → Well v → (from : ℕ) (r : Option ℕ) → r ≡ first_from v.limits v.entries from v.limits.slots → r ≡ first-kept (meaning_of v).sections from
+pub first_meant : (v : View) → Well v → (from : ℕ) (r : Option ℕ) → r ≡ first_from v.limits v.entries from v.limits.slots → r ≡ first_kept (meaning_of v).sections from
 first_meant v w from r e = e ∙ (first_slots v from v.limits.slots ∙ first_is (pages_in v) from v.limits.slots (distinct v w))
 
 -- Where the last row of a page ends.

@@ -123,7 +123,7 @@ row_answer (Ok e) (Err f) = Err (parts_of f)
 row_answer (Ok e) (Ok n) = Ok e
 
 abbrev pub row_read : Meaning → ℕ → ℕ → ℕ → ℕ → Result Entry FaultParts
-row_read m s p key-room value_room = row_answer (entry_read m s p key-room) (value_read m s p value_room)
+row_read m s p key_room value_room = row_answer (entry_read m s p key_room) (value_read m s p value_room)
 
 abbrev pub after_entry : Result Entry JournalFault → List ℕ → List ℕ → List ℕ
 after_entry (Err f) new old = old
@@ -131,4 +131,4 @@ after_entry (Ok e) new old = new
 
 -- The value's buffer, which waits for the entry.
 abbrev pub row_buffer : Meaning → ℕ → ℕ → ℕ → List ℕ → List ℕ
-row_buffer m s p key-room value = after_entry (entry_read m s p key-room) (value_buffer m s p value) value
+row_buffer m s p key_room value = after_entry (entry_read m s p key_room) (value_buffer m s p value) value

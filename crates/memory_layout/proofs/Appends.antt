@@ -9,17 +9,17 @@ use Rattle.journal.specs.Calls.{append_fault, no_slot}
 use Rattle.journal.specs.Slots.{Ready, kept_in}
 use Rattle.journal.proofs.Laws.{accepted}
 use Rattle.journal.proofs.Refusals as refusals
-use Rattle.journal.proofs.Pages as pages-have
+use Rattle.journal.proofs.Pages as pages_have
 use Rattle.memory_layout.specs.View.{View, Well, Holds, Nowhere, Vacant, AllTaken, Stores, head, pages, limits_of, meaning_of, stored, room_fault}
 use Rattle.memory_layout.proofs.Store.{grows}
 use Rattle.memory_layout.proofs.Keeps.{well_after}
 use Rattle.memory_layout.proofs.Seen.{rows_length, counted, absent, distinct, above}
 
 pub ready_found : (v : View) (t s : ℕ) → Well v → Holds v t s → Ready (pages v) v.slots t s
-ready_found v t s well h = pages-have.ready_found (pages v) v.slots t s (distinct v well) h.slot (counted v t h.taken) h.start
+ready_found v t s well h = pages_have.ready_found (pages v) v.slots t s (distinct v well) h.slot (counted v t h.taken) h.start
 
 pub ready_vacant : (v : View) (t s : ℕ) → Vacant v t → Nowhere v s → Ready (pages v) v.slots t s
-ready_vacant v t s h f = pages-have.ready_vacant (pages v) v.slots t s h.slot (rows_length v t ∙ h.free_of_rows) (absent v s f)
+ready_vacant v t s h f = pages_have.ready_vacant (pages v) v.slots t s h.slot (rows_length v t ∙ h.free_of_rows) (absent v s f)
 
 -- A refusal leaves the tables.
 pub refuses : (v : View) (s : ℕ) (label : Label) (key value : List ℕ) (e : JournalFault) → Well v → append_fault (meaning_of v) s key value ≡ Some e → Stores v v s label key value (Err e)
@@ -31,11 +31,11 @@ pub none_free : (v : View) (s : ℕ) (label : Label) (key value : List ℕ) → 
 none_free v s label key value well lk fl f g =
     refuses v s label key value (NoSlot s) well
     (refusals.fault_slot (meaning_of v) s key value lk fl
-    (pages-have.no_slot_left (pages v) v.slots s (meaning_of v) refl refl (distinct v well) (λ i h. counted v i (f i h)) (absent v s g)))
+    (pages_have.no_slot_left (pages v) v.slots s (meaning_of v) refl refl (distinct v well) (λ i h. counted v i (f i h)) (absent v s g)))
 
 module _ (v : View) (t s : ℕ) (label : Label) (key value : List ℕ) (well : Well v) (ready : Ready (pages v) v.slots t s) (fl : v.floor ≤ s) (lk : length key ≡ v.width) where
   rows_are : rows_of (kept_in (pages v) v.slots) s ≡ (pages v t).rows
-  rows_are = pages-have.ready_rows (pages v) v.slots t s ready
+  rows_are = pages_have.ready_rows (pages v) v.slots t s ready
 
   sees : cost (rows_of (kept_in (pages v) v.slots) s) ≡ (head v t).cost
   sees = ap cost rows_are ∙ sym (well.costs t ready.slot)
@@ -44,7 +44,7 @@ module _ (v : View) (t s : ℕ) (label : Label) (key value : List ℕ) (well : W
   counts = ap length rows_are ∙ rows_length v t
 
   room : no_slot (meaning_of v) s ≡ false
-  room = pages-have.ready_slot (pages v) v.slots t s ready (meaning_of v) refl refl
+  room = pages_have.ready_slot (pages v) v.slots t s ready (meaning_of v) refl refl
 
   -- The slot's own tests are what is left of the refusals.
   pub left_over : append_fault (meaning_of v) s key value ≡ room_fault (head v t) (length value) v.rows v.limit s
@@ -67,8 +67,8 @@ module _ (v : View) (t s : ℕ) (label : Label) (key value : List ℕ) (well : W
   takes h ns v' n e q =
       let a = has_place h in
       let k = refusals.taken (meaning_of v) s key value label (left_over ∙ h) in
-      let g = pages-have.kept_grown (pages v) (pages (stored v t s label key value)) v.slots t s v.floor _ ready
-      (grows v well t s label key value ready.slot a.0 a.1 lk) (pages-have.rising (pages v) v.slots v.floor (above v well)) in
+      let g = pages_have.kept_grown (pages v) (pages (stored v t s label key value)) v.slots t s v.floor _ ready
+      (grows v well t s label key value ready.slot a.0 a.1 lk) (pages_have.rising (pages v) v.slots v.floor (above v well)) in
       subst (λ (w : View). Stores v w s label key value (Ok n)) (sym e)
       (record {
         well = well_after v well t s label key value ready.slot a.0 a.1 lk (λ i hi ne c. ready.alone i hi ne (counted v i c)) fl ns;

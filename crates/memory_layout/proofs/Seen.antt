@@ -6,7 +6,7 @@ use Rattle.std.proofs.lemmas.Option.{slice_get-get_or, slice_get_past}
 use Rattle.journal.specs.Meaning.{Row, rows_of, row_at, Lawful}
 use Rattle.journal.specs.Slots.{Distinct, Absent, kept_in}
 use Rattle.journal.proofs.Bytes.{length_chunk}
-use Rattle.journal.proofs.Pages as pages-have
+use Rattle.journal.proofs.Pages as pages_have
 use Rattle.memory_layout.specs.View.{View, Well, Holds, Nowhere, head, kept_row, row_of, rows_in, pages, meaning_of}
 use Rattle.memory_layout.proofs.Room.{row_within}
 
@@ -30,10 +30,10 @@ module _ (v : View) (well : Well v) where
 
   -- The rows of a section, by the slot that holds it.
   pub found : (t s : ℕ) → Holds v t s → rows_of (kept_in (pages v) v.slots) s ≡ rows_in v t
-  found t s h = (pages-have.found (pages v) v.slots distinct t s h.slot (counted v t h.taken) h.start).1
+  found t s h = (pages_have.found (pages v) v.slots distinct t s h.slot (counted v t h.taken) h.start).1
 
   pub missing : (s : ℕ) → Nowhere v s → rows_of (kept_in (pages v) v.slots) s ≡ []
-  missing s f = (pages-have.absent (pages v) v.slots s (absent v s f)).1
+  missing s f = (pages_have.absent (pages v) v.slots s (absent v s f)).1
 
   -- The row at a place.
   pub row_found : (t s p : ℕ) → Holds v t s → p < (head v t).count → row_at (meaning_of v) s p ≡ Some (row_of v.bytes v.width (kept_row v t p))
@@ -60,7 +60,7 @@ module _ (v : View) (well : Well v) where
 
   pub lawful : Lawful (meaning_of v)
   lawful =
-      pages-have.lawful_pages (pages v) v.slots (meaning_of v) refl refl well.width_few above
+      pages_have.lawful_pages (pages v) v.slots (meaning_of v) refl refl well.width_few above
       (λ s h f. record {
         start = well.starts s h;
         some = f;
