@@ -5,8 +5,10 @@ usage: python3 tools/respell-names.py [--dry] [TOP]     once, right after the ki
 
 A name is this repository's own if a file of specs/ or proofs/ declares it, at the top, in a module or a record, as a parameter or by a
 let. What Rattle makes of the source (a goal, and a step or a field behind c, l or w in a proof's folder) and what is imported from a
-library keep their spelling. It also turns the names where must-fail edits write them and where a page of docs/ quotes them. It stops,
-and writes nothing, where two names of one file would fall together, but for a function of src/ and the definition of what it returns.
+library keep their spelling. It also turns the names where must-fail edits write them. It leaves to the hand: pages of docs/, what a
+comment says beyond the first word of a legend, a name that is bound on the left of a clause alone, and an alias. It stops, and writes
+nothing, where two names of one file would fall together, but for a function of src/, which may have the name of a definition: whether
+the two go together it does not know.
 """
 
 import collections
@@ -28,7 +30,7 @@ ROOTS = {"c", "l", "w", "v", "g", "goal"}
 # What port.py writes for the library's older word; the gate lets no other word of the library stand under its name.
 ALIAS = "AllByRecursion as All"
 # A name that the older library had spelled into this one.
-SPECIAL = {"getD-row": "get_or_row", "getD-chunk": "get_or_chunk"}
+SPECIAL = {"getD-row": "get_or_row"}
 
 
 def new(name):

@@ -2,8 +2,8 @@
 // Tables of fixed size, none of them on a heap. docs/ARCHITECTURE.md says how a section keeps its chains.
 #![tactic(auto)]
 
-pub mod buckets;
+mod buckets;
 pub mod handle;
 pub mod index;
-pub mod numbers;
+mod numbers;
 pub mod section;
