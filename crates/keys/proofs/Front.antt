@@ -1,28 +1,47 @@
--- One leading byte more.
-use Rattle.std.proofs.Common.{◌≡◌, ℕ, ◌+◌, ◌-◌, ◌*◌, ◌^◌, ◌<◌, ◌≤◌, List, ◌++◌, length, get_or, take, replicate, sym, refl, ap, ◌∙◌, ap₂, ⊎_elim, arith, length-append, pow_mono, pow-add}
-use lib.ListN.{length-replicate, get_or-replicate}
-use Rattle.std.proofs.lemmas.List.{get_or_append_left, get_or-append_right, get_or_past}
-use Rattle.std.proofs.lemmas.List.Sums.{fold_more}
-use Rattle.std.proofs.lemmas.Bool.{cases_lt}
-use Rattle.keys.specs.Translators.{big_endian}
+-- The first bytes of a key with zeros behind them, and their number in 64 bits.
+use Rattle.std.proofs.Common.{◌≡◌, ℕ, zero, suc, ◌+◌, ◌*◌, ◌^◌, ◌<◌, ◌≤◌, min, List, [], ◌∷◌, ◌++◌, length, get_or, take, drop, replicate, fold, refl, ap, ◌∙◌, arith, pow_mono, pow-add}
+use Rattle.keys.specs.Translators.{behind, leading}
 
-filled_at : (key : List ℕ) (n i : ℕ) → i < n → get_or (key ++ replicate n 0) i 0 ≡ get_or key i 0
-filled_at key n i h =
-    ⊎_elim
-    (λ l. get_or_append_left key (replicate n 0) 0 i l)
-    (λ l. get_or-append_right key (replicate n 0) (length key) i 0 refl l ∙ get_or-replicate n (i - length key) 0 0 (omega arith) ∙ sym (get_or_past key i 0 l))
-    (cases_lt i (length key))
+-- Each byte more is added behind without a loss, as long as there are no more than eight.
+pub behind_kept : (xs : List ℕ) (a n : ℕ) → a < 2 ^ (8 * n) → n + length xs ≤ 8 → ((i : ℕ) → get_or xs i 0 < 256) → fold behind a xs ≡ fold (λ x y. x * 256 + y) a xs
+behind_kept [] a n h l b = refl
+behind_kept (x ∷ xs) a n h l b =
+    let m : 2 ^ (8 * n) ≤ 2 ^ 56 = pow_mono {i = 8 * n} {j = 56} (omega arith) in
+    let k : x < 256 = b 0 in
+    let e : behind a x ≡ a * 256 + x = omega (arith, m, k) in
+    let p : 2 ^ (8 * (n + 1)) ≡ 2 ^ (8 * n) * 256 = ap (λ (i : ℕ). 2 ^ i) (omega arith) ∙ pow-add 2 (8 * n) 8 in
+    ap (λ (i : ℕ). fold behind i xs) e ∙ behind_kept xs (a * 256 + x) (n + 1) (omega (arith, p, k)) (omega (arith, l)) (λ i. b (suc i))
 
-pub lead_step : (key : List ℕ) (n i v b : ℕ) → i < n → v ≡ big_endian (take i (key ++ replicate n 0)) → b ≡ get_or key i 0 → v * 256 + b ≡ big_endian (take (i + 1) (key ++ replicate n 0))
-lead_step key n i v b h e q =
-    let l : i < length (key ++ replicate n 0) = omega (arith, length-append key (replicate n 0), length-replicate {A = ℕ} n 0) in
-    ap₂ (λ (x : ℕ) (y : ℕ). x * 256 + y) e (q ∙ sym (filled_at key n i h)) ∙ sym (fold_more (λ a b. a * 256 + b) 0 (key ++ replicate n 0) i 0 l)
+zeros : (n m k : ℕ) → n ≤ m → n ≤ k → take {A = ℕ} n (replicate m 0) ≡ take n (replicate k 0)
+zeros zero m k h l = refl
+zeros (suc n) zero k h l = absurd (omega arith)
+zeros (suc n) (suc m) zero h l = absurd (omega arith)
+zeros (suc n) (suc m) (suc k) h l = ap (λ (xs : List ℕ). 0 ∷ xs) (zeros n m k (omega arith) (omega arith))
 
-pub lead_grows : (i v b : ℕ) → v < 2 ^ (8 * i) → b < 256 → v * 256 + b < 2 ^ (8 * (i + 1))
-lead_grows i v b h l =
-    let e : 8 * (i + 1) ≡ 8 * i + 8 = omega arith in
-    let p : 2 ^ (8 * (i + 1)) ≡ 2 ^ (8 * i) * 256 = ap (λ (k : ℕ). 2 ^ k) e ∙ pow-add 2 (8 * i) 8 in
-    omega (arith, p)
+-- A key's first bytes laid over zeros are the key's with zeros behind.
+pub laid_over : (key : List ℕ) (n m k g : ℕ) → n ≤ m → n ≤ k → g ≡ min (length key) n → take n (take g key ++ drop g (replicate m 0)) ≡ take n (key ++ replicate k 0)
+laid_over key zero m k g h l e = refl
+laid_over [] (suc n) m k zero h l e = zeros (suc n) m k h l
+laid_over [] (suc n) m k (suc g) h l e = absurd (omega arith)
+laid_over (x ∷ key) (suc n) zero k g h l e = absurd (omega arith)
+laid_over (x ∷ key) (suc n) (suc m) k zero h l e = absurd (omega arith)
+laid_over (x ∷ key) (suc n) (suc m) k (suc g) h l e = ap (λ (xs : List ℕ). x ∷ xs) (laid_over key n m k g (omega arith) (omega arith) (omega arith))
 
-pub lead_bound : (i v : ℕ) → i < 8 → v < 2 ^ (8 * i) → v < 72057594037927936
-lead_bound i v h l = let m : 2 ^ (8 * i) ≤ 2 ^ 56 = pow_mono {i = 8 * i} {j = 56} (omega arith) in omega (arith, m)
+front_bytes : (key : List ℕ) (n k : ℕ) → ((i : ℕ) → get_or key i 0 < 256) → (i : ℕ) → get_or (take n (key ++ replicate k 0)) i 0 < 256
+front_bytes key zero k b i = omega arith
+front_bytes [] (suc n) zero b i = omega arith
+front_bytes [] (suc n) (suc k) b zero = omega arith
+front_bytes [] (suc n) (suc k) b (suc i) = front_bytes [] n k b i
+front_bytes (x ∷ key) (suc n) k b zero = b 0
+front_bytes (x ∷ key) (suc n) k b (suc i) = front_bytes key n k (λ j. b (suc j)) i
+
+front_few : (xs : List ℕ) (n : ℕ) → length (take n xs) ≤ n
+front_few xs zero = omega arith
+front_few [] (suc n) = omega arith
+front_few (x ∷ xs) (suc n) = let l = front_few xs n in omega (arith, l)
+
+-- The number of the bytes so laid is that of the first bytes of the key.
+pub front_number : (key : List ℕ) (n g : ℕ) → n ≤ 8 → g ≡ min (length key) n → ((i : ℕ) → get_or key i 0 < 256) → fold behind 0 (take n (take g key ++ drop g (replicate 8 0))) ≡ leading n key
+front_number key n g h e b =
+    ap (fold behind 0) (laid_over key n 8 n g h (omega arith) e)
+    ∙ behind_kept (take n (key ++ replicate n 0)) 0 0 (omega arith) (let l = front_few (key ++ replicate n 0) n in omega (arith, l)) (front_bytes key n n b)

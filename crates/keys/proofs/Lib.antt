@@ -1,3 +1,2 @@
 pub mod Front
-pub mod Same
 pub mod Sums

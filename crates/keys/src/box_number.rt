@@ -7,12 +7,12 @@ ghost use Rattle.keys.specs.Flaws.{no_flaw, flawless, width_right, place_flaw};
 ghost use Rattle.keys.specs.Iso.{first_bad};
 ghost use Rattle.keys.specs.Places.{bad_within};
 
-use crate::bytes::same_bytes;
+use crate::bytes::exactly;
 use crate::fault::KeyFault;
 use crate::kind::Key;
 
 /// The rule is part of the type: no value has a wrong check digit, or any other flaw.
-#[derive(Clone, Copy)]
+#[derive(Clone, Copy, Debug, PartialEq, Eq)]
 pub struct BoxNumber {
     bytes: [u8; 11],
     ghost long: { length bytes ≡ 11 },
@@ -28,13 +28,13 @@ const LETTER_COUNTS: [u32; 26] = [
 fn is_letter(b: u8) -> bool
     ensures { result ≡ iso.is_letter b }
 {
-    b'A' <= b && b <= b'Z'
+    b.is_ascii_uppercase()
 }
 
 fn is_digit(b: u8) -> bool
     ensures { result ≡ iso.is_digit b }
 {
-    b'0' <= b && b <= b'9'
+    b.is_ascii_digit()
 }
 
 fn is_category(b: u8) -> bool
@@ -67,10 +67,8 @@ fn sum_of(bytes: &[u8; 11]) -> u32
     ensures { result ≡ iso.check_sum bytes.now }
 {
     let mut sum = 0;
-    let mut weight = 1;
-    for p in 0..10 {
-        sum += count(bytes[p]) * weight;
-        weight *= 2;
+    for (place, b) in bytes[..10].iter().enumerate() {
+        sum += count(*b) * (1 << place);
     }
     sum
 }
@@ -89,10 +87,7 @@ fn digit_of(sum: u32) -> Option<u8>
 fn shows(digit: Option<u8>, b: u8) -> bool
     ensures { result ≡ iso.shows digit b }
 {
-    match digit {
-        Some(d) => u32::from(b) == 48 + u32::from(d),
-        None => false,
-    }
+    digit.is_some_and(|d| u32::from(b) == 48 + u32::from(d))
 }
 
 // Whether the place holds what it may; the check digit is asked for last, after all that it is reckoned from.
@@ -100,27 +95,18 @@ fn place_ok(bytes: &[u8; 11], place: usize) -> bool
     requires { place < 11 }
     ensures { result ≡ iso.place_ok bytes.now place }
 {
-    if place < 3 {
-        return is_letter(bytes[place]);
+    match place {
+        0..=2 => is_letter(bytes[place]),
+        3 => is_category(bytes[place]),
+        4..=9 => is_digit(bytes[place]),
+        _ => shows(digit_of(sum_of(bytes)), bytes[place]),
     }
-    if place == 3 {
-        return is_category(bytes[place]);
-    }
-    if place < 10 {
-        return is_digit(bytes[place]);
-    }
-    shows(digit_of(sum_of(bytes)), bytes[place])
 }
 
 fn first_bad(bytes: &[u8; 11]) -> Option<usize>
     ensures { result ≡ iso.first_bad bytes.now 0 11 }
 {
-    for place in 0..11 {
-        if !place_ok(bytes, place) {
-            return Some(place);
-        }
-    }
-    None
+    (0..11).find(|place| !place_ok(bytes, *place))
 }
 
 impl BoxNumber {
@@ -140,7 +126,7 @@ impl BoxNumber {
 impl Key for BoxNumber {
     const W: usize = 11;
 
-    ghost width = { 11 };
+    ghost W = { 11 };
 
     ghost bytes = { λ k. k.bytes };
 
@@ -148,25 +134,21 @@ impl Key for BoxNumber {
 
     ghost first_bytes = { codes "AAAU0000007" };
 
-    ghost some = { first_of (Prim.search rules, Prim.grind (arith, Self.row.coded.inj)) };
+    ghost some = { Prim.search rules };
 
-    ghost narrow = { first_of (Prim.search rules, Prim.grind (arith, Self.row.coded.inj)) };
+    ghost narrow = { Prim.search rules };
 
-    ghost long = { first_of (Prim.search rules, Prim.grind (arith, Self.row.coded.inj)) };
+    ghost long = { Prim.search rules };
 
-    ghost apart = { first_of (Prim.search rules, Prim.grind (arith, Self.row.coded.inj)) };
+    ghost apart = { Prim.grind (arith, Self.row.coded.inj) };
 
     ghost clean = { λ k. no_flaw _ k.valid };
 
     ghost given = { λ xs h. (record { bytes = xs; long = width_right 11 (first_bad xs 0 11) xs h; valid = flawless _ h }, refl) };
 
-    ghost sized = { first_of (Prim.search rules, Prim.grind (arith, Self.row.coded.inj)) };
+    ghost sized = { Prim.search rules };
 
     ghost inside = { λ xs p l h. bad_within xs 0 11 p (sym (place_flaw 11 (first_bad xs 0 11) xs l) ∙ h) };
-
-    fn width() -> usize {
-        Self::W
-    }
 
     fn first() -> BoxNumber {
         BoxNumber {
@@ -174,22 +156,12 @@ impl Key for BoxNumber {
         }
     }
 
-    fn copy_to(&self, out: &mut [u8; 32]) {
-        out[0..11].copy_from_slice(&self.bytes);
-    }
-
-    fn same(&self, other: &BoxNumber) -> bool {
-        same_bytes(&self.bytes, &other.bytes)
+    fn as_bytes(&self) -> &[u8] {
+        &self.bytes
     }
 
     fn read(&mut self, from: &[u8]) -> Result<(), KeyFault> {
-        if from.len() != Self::W {
-            return Err(KeyFault::NotAKey {
-                amount: Self::W as u64,
-            });
-        }
-        let mut bytes = [0; 11];
-        bytes.copy_from_slice(from);
+        let bytes = exactly::<11>(from)?;
         if let Some(place) = first_bad(&bytes) {
             return Err(KeyFault::NotAKey {
                 amount: place as u64,

@@ -1,9 +1,22 @@
-// Bytes held against bytes, as every comparison of keys does it.
+// Bytes held against bytes, as every comparison of keys does it, and bytes taken as so many.
 
 ghost use Rattle.std.specs.Prelude.{◌≡◌, Decides};
+ghost use Rattle.keys.specs.Reading.{taken};
+
+use crate::fault::KeyFault;
 
 pub fn same_bytes(a: &[u8], b: &[u8]) -> bool
     ensures { Decides result (a.now ≡ b.now) }
 {
     a == b
+}
+
+/// Bytes as an array of the width, or the refusal of another length.
+pub(crate) fn exactly<const N: usize>(from: &[u8]) -> Result<[u8; N], KeyFault>
+    ensures { result ≡ taken N from.now }
+{
+    match <[u8; N]>::try_from(from) {
+        Ok(bytes) => Ok(bytes),
+        Err(_) => Err(KeyFault::NotAKey { amount: N as u64 }),
+    }
 }

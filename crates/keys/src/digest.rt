@@ -5,11 +5,11 @@ ghost use Rattle.keys.specs.Digests as digests;
 ghost use Rattle.keys.specs.Flaws.{width_right};
 ghost use Rattle.std.proofs.Common.{rules, arith};
 
-use crate::bytes::same_bytes;
+use crate::bytes::exactly;
 use crate::fault::KeyFault;
 use crate::kind::Key;
 
-#[derive(Clone, Copy)]
+#[derive(Clone, Copy, Debug, PartialEq, Eq)]
 pub struct Digest {
     bytes: [u8; 32],
     ghost long: { length bytes ≡ 32 },
@@ -18,7 +18,7 @@ pub struct Digest {
 impl Key for Digest {
     const W: usize = 32;
 
-    ghost width = { 32 };
+    ghost W = { 32 };
 
     ghost bytes = { λ k. k.bytes };
 
@@ -26,46 +26,32 @@ impl Key for Digest {
 
     ghost first_bytes = { replicate 32 0 };
 
-    ghost some = { first_of (Prim.search rules, Prim.grind (arith, Self.row.coded.inj)) };
+    ghost some = { Prim.search rules };
 
-    ghost narrow = { first_of (Prim.search rules, Prim.grind (arith, Self.row.coded.inj)) };
+    ghost narrow = { Prim.search rules };
 
-    ghost long = { first_of (Prim.search rules, Prim.grind (arith, Self.row.coded.inj)) };
+    ghost long = { Prim.search rules };
 
-    ghost apart = { first_of (Prim.search rules, Prim.grind (arith, Self.row.coded.inj)) };
+    ghost apart = { Prim.grind (arith, Self.row.coded.inj) };
 
-    ghost clean = { first_of (Prim.search rules, Prim.grind (arith, Self.row.coded.inj)) };
+    ghost clean = { Prim.search rules };
 
     ghost given = { λ xs h. (record { bytes = xs; long = width_right 32 None xs h }, refl) };
 
-    ghost sized = { first_of (Prim.search rules, Prim.grind (arith, Self.row.coded.inj)) };
+    ghost sized = { Prim.search rules };
 
-    ghost inside = { first_of (Prim.search rules, Prim.grind (arith, Self.row.coded.inj)) };
-
-    fn width() -> usize {
-        Self::W
-    }
+    ghost inside = { Prim.search rules };
 
     fn first() -> Digest {
         Digest { bytes: [0; 32] }
     }
 
-    fn copy_to(&self, out: &mut [u8; 32]) {
-        *out = self.bytes;
-    }
-
-    fn same(&self, other: &Digest) -> bool {
-        same_bytes(&self.bytes, &other.bytes)
+    fn as_bytes(&self) -> &[u8] {
+        &self.bytes
     }
 
     fn read(&mut self, from: &[u8]) -> Result<(), KeyFault> {
-        if from.len() != Self::W {
-            return Err(KeyFault::NotAKey {
-                amount: Self::W as u64,
-            });
-        }
-        let mut bytes = [0; 32];
-        bytes.copy_from_slice(from);
+        let bytes = exactly::<32>(from)?;
         *self = Digest { bytes };
         Ok(())
     }

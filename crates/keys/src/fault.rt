@@ -3,7 +3,7 @@
 ghost use Rattle.std.specs.Prelude.{◌≡◌};
 ghost use Rattle.keys.specs.Faults.{parts_of};
 
-#[derive(Clone, Copy)]
+#[derive(Clone, Copy, Debug, PartialEq, Eq)]
 pub enum KeyFault {
     /// The bytes handed in are no key: the width where there are more or fewer, else the first bad place.
     NotAKey { amount: u64 },
@@ -12,7 +12,7 @@ pub enum KeyFault {
 }
 
 /// A refusal as every layer shows it; what a refusal does not name is 0.
-#[derive(Clone, Copy)]
+#[derive(Clone, Copy, Debug, PartialEq, Eq)]
 pub struct FaultParts {
     pub number: u64,
     pub layer: u64,
@@ -21,6 +21,15 @@ pub struct FaultParts {
     pub amount: u64,
 }
 
+// What no refusal of this layer names is 0.
+const BARE: FaultParts = FaultParts {
+    number: 0,
+    layer: 1,
+    section: 0,
+    position: 0,
+    amount: 0,
+};
+
 impl KeyFault {
     pub fn parts(&self) -> FaultParts
         ensures { result ≡ parts_of self.now }
@@ -28,18 +37,24 @@ impl KeyFault {
         match *self {
             KeyFault::NotAKey { amount } => FaultParts {
                 number: 17,
-                layer: 1,
-                section: 0,
-                position: 0,
                 amount,
+                ..BARE
             },
             KeyFault::StoredKey { section, position } => FaultParts {
                 number: 6,
-                layer: 1,
                 section,
                 position,
-                amount: 0,
+                ..BARE
             },
         }
+    }
+}
+
+/// So that `?` passes a key's refusal up as its parts.
+impl From<KeyFault> for FaultParts {
+    ghost from_gives = { λ f r. r ≡ parts_of f };
+
+    fn from(f: KeyFault) -> FaultParts {
+        f.parts()
     }
 }

@@ -12,9 +12,5 @@ fn step_32(h: u32, b: u8) -> u32
 pub fn fnv_1a_32(bytes: &[u8]) -> u32
     ensures { result ≡ hash.fnv_1a_32 bytes.now }
 {
-    let mut h: u32 = 2_166_136_261;
-    for b in bytes {
-        h = step_32(h, *b);
-    }
-    h
+    bytes.iter().fold(2_166_136_261, |h, b| step_32(h, *b))
 }

@@ -11,8 +11,5 @@ pub fn accepts<K: Key>(key: &mut K, from: &[u8]) -> bool
     ensures takes { (k : K) → K.Key.bytes k ≡ from.now → (result ≡ true) × (key.new ≡ k) }
     ensures keeps { result ≡ false → key.new ≡ key.old }
 {
-    match key.read(from) {
-        Ok(()) => true,
-        Err(_) => false,
-    }
+    key.read(from).is_ok()
 }

@@ -2,7 +2,7 @@
 
 ghost use Rattle.std.specs.Prelude.{◌≡◌, ℕ, ◌+◌, ◌*◌, ◌^◌, ◌<◌, ◌≤◌, List, slice_index};
 ghost use Rattle.keys.specs.Fnv as hash;
-ghost use Rattle.keys.specs.Translators.{leading, count_of, translated_by};
+ghost use Rattle.keys.specs.Translators.{behind, leading, count_of, translated_by};
 
 use crate::fnv::fnv_1a_32;
 
@@ -20,7 +20,7 @@ pub trait Translator {
 }
 
 /// The first bytes of a key as a big-endian number; the type allows these four counts and no other.
-#[derive(Clone, Copy)]
+#[derive(Clone, Copy, Debug, PartialEq, Eq)]
 pub enum Leading {
     One,
     Two,
@@ -41,19 +41,11 @@ impl Leading {
     }
 }
 
-// A byte of a key, or 0 behind its end.
-fn byte_at(key: &[u8], i: usize) -> u8
-    ensures { result ≡ slice_index key.now i }
+// One byte more behind those that a number was made of. Of eight bytes in all none is lost.
+fn with_byte(number: u64, b: u8) -> u64
+    ensures { result ≡ behind number b }
 {
-    if i < key.len() { key[i] } else { 0 }
-}
-
-// One byte more behind the i bytes that a number was made of.
-fn with_byte(number: u64, key: &[u8], i: usize) -> u64
-    requires { (i < 8) × (number < 2 ^ (8 * i)) }
-    ensures { result ≡ number * 256 + slice_index key.now i }
-{
-    number * 256 + u64::from(byte_at(key, i))
+    number.wrapping_mul(256).wrapping_add(u64::from(b))
 }
 
 impl Translator for Leading {
@@ -62,12 +54,13 @@ impl Translator for Leading {
     ghost hashed = { λ _ t. t };
 
     fn translate(&self, key: &[u8]) -> u64 {
-        let mut number: u64 = 0;
         let count = self.count();
-        for i in 0..count {
-            number = with_byte(number, key, i);
-        }
-        number
+        let given = key.len().min(count);
+        let mut front = [0; 8];
+        front[..given].copy_from_slice(&key[..given]);
+        front[..count]
+            .iter()
+            .fold(0, |number, b| with_byte(number, *b))
     }
 
     fn hash(&self, code: u64) -> u64 {
@@ -76,7 +69,7 @@ impl Translator for Leading {
 }
 
 /// FNV-1a 32 of the whole key.
-#[derive(Clone, Copy)]
+#[derive(Clone, Copy, Debug, PartialEq, Eq)]
 pub struct Fnv;
 
 impl Translator for Fnv {
@@ -94,7 +87,7 @@ impl Translator for Fnv {
 }
 
 /// One of the five, chosen while a program runs.
-#[derive(Clone, Copy)]
+#[derive(Clone, Copy, Debug, PartialEq, Eq)]
 pub enum AnyTranslator {
     Leading(Leading),
     Fnv(Fnv),

@@ -1,10 +1,15 @@
-use Rattle.std.proofs.Common.{ℕ, Option, sym, ap}
+use Rattle.std.proofs.Common.{ℕ, Option, sym, ap, ◌∙◌}
 use Rattle.keys.specs.Iso.{first_bad}
 use Rattle.keys.specs.Reading.{read_answer, read_bytes}
-use Rattle.keys.specs.Flaws.{width_wrong}
+use Rattle.keys.specs.Flaws.{taken_flaw}
 use Rattle.keys.proofs.box_number.BoxNumberKey.read.Goals as goal
 
-pub returns-then-from-ne-W : goal.returns-then-from-ne-W
-returns-then-from-ne-W c =
-    let e = width_wrong 11 (first_bad c.args.from.now 0 11) c.args.from.now c.if-from-ne-W.true in
-    record { answer = sym (ap read_answer e); after = sym (ap (λ (o : Option ℕ). read_bytes o c.args.from.now c.args.self.now.bytes) e) }
+pub returns-in-Some : goal.returns-in-Some
+returns-in-Some c =
+    let t = taken_flaw 11 (λ xs. first_bad xs 0 11) c.args.from.now c.in_ok-bytes.bytes _ c.in_ok-bytes.ensures c.in-Some.ensures in
+    record { answer = sym (ap read_answer t.0); after = sym (ap (λ (o : Option ℕ). read_bytes o c.args.from.now c.args.self.now.bytes) t.0) }
+
+pub returns : goal.returns
+returns c =
+    let t = taken_flaw 11 (λ xs. first_bad xs 0 11) c.args.from.now c.in_ok-bytes.bytes _ c.in_ok-bytes.ensures c.in_default.ensures in
+    record { answer = sym (ap read_answer t.0); after = t.1 ∙ sym (ap (λ (o : Option ℕ). read_bytes o c.args.from.now c.args.self.now.bytes) t.0) }
