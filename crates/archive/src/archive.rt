@@ -30,7 +30,7 @@ impl<J: Journal, T: Translator, K: Key> Archive<J, T, K> {
     pub(crate) fn new(journal: J, translator: T) -> Archive<J, T, K>
         ensures state { state_of J.meaning result ≡ new (J.meaning journal) }
         ensures parts { (result.journal ≡ journal) × (result.translator ≡ translator) }
-        ensures fit { (o : J.past) → J.fits o journal → Fits J.fits J.meaning T.translated T.hashed K.width o result }
+        ensures fit { (o : J.past) → J.fits o journal → Fits J.fits J.meaning T.translated T.hashed K.W o result }
     {
         // To ask a journal for its limits is to learn that it is lawful.
         let _ = journal.limits();

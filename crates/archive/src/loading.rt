@@ -38,7 +38,7 @@ fn index_row<J: Journal, T: Translator, K: Key>(
     start: u64,
     position: u64,
 ) -> Result<(), ArchiveFault>
-    ensures { Reads J.Journal.fits J.Journal.meaning journal.old journal.new (λ m. Lawful m → m.limits.width ≡ K.Key.width → (row : Row) → row_at m start position ≡ Some row → (section_of size row.label.number ≡ start → has_room (views index.old) start (row.label.number - start) ≡ true) → IndexesRow (kind_of T.Translator.translated K.Key.width K.Key.flaw translator.now) (coding_of T.Translator.translated T.Translator.hashed translator.now) size start position row (views index.old) (views index.new) result) }
+    ensures { Reads J.Journal.fits J.Journal.meaning journal.old journal.new (λ m. Lawful m → m.limits.width ≡ K.Key.W → (row : Row) → row_at m start position ≡ Some row → (section_of size row.label.number ≡ start → has_room (views index.old) start (row.label.number - start) ≡ true) → IndexesRow (kind_of T.Translator.translated K.Key.W K.Key.flaw translator.now) (coding_of T.Translator.translated T.Translator.hashed translator.now) size start position row (views index.old) (views index.new) result) }
 {
     let mut buffer = [0u8; 32];
     let entry = journal.read_entry(start, position, &mut buffer)?;
@@ -74,7 +74,7 @@ fn index_section<J: Journal, T: Translator, K: Key>(
     size: u64,
     start: u64,
 ) -> Result<u64, ArchiveFault>
-    ensures { Reads J.Journal.fits J.Journal.meaning journal.old journal.new (λ m. Lawful m → (ys : List Section) → SectionReady (coding_of T.Translator.translated T.Translator.hashed translator.now) m (views index.old) ys size K.Key.width start → IndexesSection (kind_of T.Translator.translated K.Key.width K.Key.flaw translator.now) (coding_of T.Translator.translated T.Translator.hashed translator.now) size start (rows_of m.sections start) ys (views index.new) result) }
+    ensures { Reads J.Journal.fits J.Journal.meaning journal.old journal.new (λ m. Lawful m → (ys : List Section) → SectionReady (coding_of T.Translator.translated T.Translator.hashed translator.now) m (views index.old) ys size K.Key.W start → IndexesSection (kind_of T.Translator.translated K.Key.W K.Key.flaw translator.now) (coding_of T.Translator.translated T.Translator.hashed translator.now) size start (rows_of m.sections start) ys (views index.new) result) }
 {
     let rows = journal.row_count(start);
     for position in 0..rows {
@@ -91,7 +91,7 @@ pub(crate) fn index_all<J: Journal, T: Translator, K: Key>(
     index: &mut Index,
     size: u64,
 ) -> Result<u64, ArchiveFault>
-    ensures { Reads J.Journal.fits J.Journal.meaning journal.old journal.new (λ m. Lawful m → IndexReady m (views index.old) size K.Key.width → IndexesAll (kind_of T.Translator.translated K.Key.width K.Key.flaw translator.now) (coding_of T.Translator.translated T.Translator.hashed translator.now) size m.sections (views index.new) result) }
+    ensures { Reads J.Journal.fits J.Journal.meaning journal.old journal.new (λ m. Lawful m → IndexReady m (views index.old) size K.Key.W → IndexesAll (kind_of T.Translator.translated K.Key.W K.Key.flaw translator.now) (coding_of T.Translator.translated T.Translator.hashed translator.now) size m.sections (views index.new) result) }
 {
     let mut from = 0;
     let mut count = 0;

@@ -10,12 +10,10 @@
 --   row_read, row_buffer      the answer of reading a whole row, a refusal by its parts, and the value's buffer after it
 -- A function by cases takes what it is by cases on as an argument, so that a fact about that can be put to use.
 use Rattle.std.specs.Prelude.{ℕ, ◌+◌, max, Bool, true, false, cond, not, List, [], ◌∷◌, ◌++◌, length, drop, Some, None, Ok, Err, Option, Result, ◌==◌, nat_lt}
-use Rattle.keys.specs.declared.fault.FaultParts.{FaultParts}
 use Rattle.journal.specs.declared.row.Label.{Label}
 use Rattle.journal.specs.declared.row.Entry.{Entry}
 use Rattle.journal.specs.declared.fault.JournalFault.{JournalFault}
 use Rattle.journal.specs.declared.fault.JournalFault.TheVariants.{WrongWidth, BelowFloor, NoSlot, RowsFull, BytesFull, Short, NoRow, Damaged}
-use Rattle.journal.specs.Faults.{parts_of}
 use Rattle.journal.specs.Meaning.{Meaning, Section, Row, Content, sound, damaged, size, cost, cost_of, is_kept, rows_of, row_at}
 
 -- A fault refuses, and leaves the old; none accepts, and gives the new.
@@ -117,12 +115,12 @@ abbrev pub pruned : Meaning → ℕ → Meaning
 pruned m n = record { limits = m.limits; floor = max m.floor n; sections = kept_from m.sections n }
 
 -- Reading a whole row: its entry, and then its value.
-abbrev pub row_answer : Result Entry JournalFault → Result ℕ JournalFault → Result Entry FaultParts
-row_answer (Err f) value = Err (parts_of f)
-row_answer (Ok e) (Err f) = Err (parts_of f)
+abbrev pub row_answer : Result Entry JournalFault → Result ℕ JournalFault → Result Entry JournalFault
+row_answer (Err f) value = Err f
+row_answer (Ok e) (Err f) = Err f
 row_answer (Ok e) (Ok n) = Ok e
 
-abbrev pub row_read : Meaning → ℕ → ℕ → ℕ → ℕ → Result Entry FaultParts
+abbrev pub row_read : Meaning → ℕ → ℕ → ℕ → ℕ → Result Entry JournalFault
 row_read m s p key_room value_room = row_answer (entry_read m s p key_room) (value_read m s p value_room)
 
 abbrev pub after_entry : Result Entry JournalFault → List ℕ → List ℕ → List ℕ

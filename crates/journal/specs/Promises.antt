@@ -6,7 +6,6 @@
 --   buffer   the buffer afterwards
 --   lawful   what holds of the meaning
 use Rattle.std.specs.Prelude.{◌≡◌, ℕ, Bool, List, length, Option, Result}
-use Rattle.keys.specs.declared.fault.FaultParts.{FaultParts}
 use Rattle.journal.specs.declared.limits.Limits.{Limits}
 use Rattle.journal.specs.declared.row.Label.{Label}
 use Rattle.journal.specs.declared.row.Entry.{Entry}
@@ -49,7 +48,7 @@ pub record Prunes {O J : Type 0} (fits : O → J → Type 0) (meaning : J → Me
   pub answer : (o : O) → fits o j → r ≡ any_below (meaning j).sections min
   pub after : (o : O) → fits o j → meaning j' ≡ pruned (meaning j) min
 
-pub record ReadsRow {O J : Type 0} (fits : O → J → Type 0) (meaning : J → Meaning) (j j' : J) (s p : ℕ) (key key' value value' : List ℕ) (r : Result Entry FaultParts) : Type 0 where
+pub record ReadsRow {O J : Type 0} (fits : O → J → Type 0) (meaning : J → Meaning) (j j' : J) (s p : ℕ) (key key' value value' : List ℕ) (r : Result Entry JournalFault) : Type 0 where
   pub fit : (o : O) → fits o j → fits o j'
   pub answer : (o : O) → fits o j → r ≡ row_read (meaning j) s p (length key) (length value)
   pub after : (o : O) → fits o j → meaning j' ≡ meaning j

@@ -1,11 +1,11 @@
 // What the journal layer refuses.
 
 ghost use Rattle.std.specs.Prelude.{◌≡◌};
-ghost use Rattle.journal.specs.Faults.{parts, parts_of};
+ghost use Rattle.journal.specs.Faults.{parts_of};
 
 use keys::fault::FaultParts;
 
-#[derive(Clone, Copy)]
+#[derive(Clone, Copy, Debug, PartialEq, Eq)]
 pub enum JournalFault {
     /// An append's key is not of the journal's width.
     WrongWidth,
@@ -54,17 +54,14 @@ pub enum JournalFault {
     },
 }
 
-fn journal_parts(number: u64, section: u64, position: u64, amount: u64) -> FaultParts
-    ensures { result ≡ parts number section position amount }
-{
-    FaultParts {
-        number,
-        layer: 2,
-        section,
-        position,
-        amount,
-    }
-}
+// What no refusal of this layer names is 0.
+const BARE: FaultParts = FaultParts {
+    number: 0,
+    layer: 2,
+    section: 0,
+    position: 0,
+    amount: 0,
+};
 
 impl JournalFault {
     /// The five parts; what a refusal does not name is 0.
@@ -72,21 +69,62 @@ impl JournalFault {
         ensures { result ≡ parts_of self.now }
     {
         match *self {
-            JournalFault::WrongWidth => journal_parts(3, 0, 0, 0),
-            JournalFault::WrongSizes => journal_parts(4, 0, 0, 0),
-            JournalFault::BadHeader { slot } => journal_parts(5, slot, 0, 0),
-            JournalFault::BadRow { slot, row } => journal_parts(6, slot, row, 0),
-            JournalFault::Damaged { section, position } => journal_parts(7, section, position, 0),
-            JournalFault::BelowFloor { section } => journal_parts(11, section, 0, 0),
-            JournalFault::NoSlot { section } => journal_parts(12, section, 0, 0),
-            JournalFault::RowsFull { section } => journal_parts(13, section, 0, 0),
-            JournalFault::BytesFull { section } => journal_parts(14, section, 0, 0),
+            JournalFault::WrongWidth => FaultParts { number: 3, ..BARE },
+            JournalFault::WrongSizes => FaultParts { number: 4, ..BARE },
+            JournalFault::BadHeader { slot } => FaultParts {
+                number: 5,
+                section: slot,
+                ..BARE
+            },
+            JournalFault::BadRow { slot, row } => FaultParts {
+                number: 6,
+                section: slot,
+                position: row,
+                ..BARE
+            },
+            JournalFault::Damaged { section, position } => FaultParts {
+                number: 7,
+                section,
+                position,
+                ..BARE
+            },
+            JournalFault::BelowFloor { section } => FaultParts {
+                number: 11,
+                section,
+                ..BARE
+            },
+            JournalFault::NoSlot { section } => FaultParts {
+                number: 12,
+                section,
+                ..BARE
+            },
+            JournalFault::RowsFull { section } => FaultParts {
+                number: 13,
+                section,
+                ..BARE
+            },
+            JournalFault::BytesFull { section } => FaultParts {
+                number: 14,
+                section,
+                ..BARE
+            },
             JournalFault::Short {
                 section,
                 position,
                 amount,
-            } => journal_parts(15, section, position, amount),
-            JournalFault::NoRow { section, position } => journal_parts(16, section, position, 0),
+            } => FaultParts {
+                number: 15,
+                section,
+                position,
+                amount,
+                ..BARE
+            },
+            JournalFault::NoRow { section, position } => FaultParts {
+                number: 16,
+                section,
+                position,
+                ..BARE
+            },
         }
     }
 }

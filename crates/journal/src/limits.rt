@@ -1,11 +1,11 @@
 // The four limits of a journal, and the ranges that they may be chosen from.
 
 ghost use Rattle.std.specs.Prelude.{◌≡◌};
-ghost use Rattle.journal.specs.Making.{between, in_range};
+ghost use Rattle.journal.specs.Making.{in_range};
 
 use crate::row::CHECK_SIZE;
 
-#[derive(Clone, Copy)]
+#[derive(Clone, Copy, Debug, PartialEq, Eq)]
 pub struct Limits {
     /// How many sections may be kept.
     pub slots: u64,
@@ -25,20 +25,14 @@ pub const NOTHING: Limits = Limits {
     width: 0,
 };
 
-fn within(low: u64, x: u64, high: u64) -> bool
-    ensures { result ≡ between low x high }
-{
-    low <= x && x <= high
-}
-
 impl Limits {
     /// Whether a journal may be begun with these limits.
     pub fn in_range(&self) -> bool
         ensures { result ≡ in_range self.now }
     {
-        within(1, self.slots, 64)
-            && within(1, self.rows, 1024)
-            && within(CHECK_SIZE, self.bytes, 65536)
-            && within(1, self.width, 32)
+        (1..=64).contains(&self.slots)
+            && (1..=1024).contains(&self.rows)
+            && (CHECK_SIZE..=65536).contains(&self.bytes)
+            && (1..=32).contains(&self.width)
     }
 }

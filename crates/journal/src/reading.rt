@@ -3,10 +3,10 @@
 ghost use Rattle.journal.specs.Promises.{ReadsRow};
 
 use crate::Journal;
+use crate::fault::JournalFault;
 use crate::row::Entry;
-use keys::fault::FaultParts;
 
-/// A row's entry with its key, and then its value. A refusal of either comes up by its parts; where the entry is refused
+/// A row's entry with its key, and then its value. A refusal of either comes up whole; where the entry is refused
 /// the value's buffer waits as it was.
 pub fn read_row<J: Journal>(
     journal: &mut J,
@@ -14,7 +14,7 @@ pub fn read_row<J: Journal>(
     position: u64,
     key: &mut [u8],
     value: &mut [u8],
-) -> Result<Entry, FaultParts>
+) -> Result<Entry, JournalFault>
     ensures { ReadsRow J.Journal.fits J.Journal.meaning journal.old journal.new start position key.old key.new value.old value.new result }
 {
     let entry = journal.read_entry(start, position, key)?;

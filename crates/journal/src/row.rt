@@ -7,14 +7,14 @@ ghost use Rattle.journal.specs.Meaning.{cost_of};
 pub const CHECK_SIZE: u64 = 4;
 
 /// What a row bears beside its key and its value. Journals carry it as it is.
-#[derive(Clone, Copy)]
+#[derive(Clone, Copy, Debug, PartialEq, Eq)]
 pub struct Label {
     /// The move number.
     pub number: u64,
 }
 
 /// What reading an entry answers.
-#[derive(Clone, Copy)]
+#[derive(Clone, Copy, Debug, PartialEq, Eq)]
 pub struct Entry {
     pub label: Label,
     /// The length of the row's value, sound or damaged.

@@ -1,7 +1,11 @@
-// What a journal over slots asks of one slot after another: its rows, 0 where it is free, and where its section starts.
+// What a journal over slots asks of one slot after another: its rows, which a free one has none of, and where its section
+// starts; and whether a section has room for a value.
 
-ghost use Rattle.std.specs.Prelude.{◌≡◌};
+ghost use Rattle.std.specs.Prelude.{◌≡◌, ◌+◌, nat_le};
+ghost use Rattle.journal.specs.Meaning.{cost_of};
 ghost use Rattle.journal.specs.Slots.{nearest, goes};
+
+use crate::row::CHECK_SIZE;
 
 /// The nearer to `from`, from above, of the best start so far and a slot's.
 pub fn nearer(best: Option<u64>, rows: u64, start: u64, from: u64) -> Option<u64>
@@ -10,10 +14,7 @@ pub fn nearer(best: Option<u64>, rows: u64, start: u64, from: u64) -> Option<u64
     if rows == 0 || start < from {
         return best;
     }
-    match best {
-        Some(b) if b <= start => Some(b),
-        _ => Some(start),
-    }
+    Some(best.map_or(start, |b| b.min(start)))
 }
 
 /// Whether a prune by `min` takes a slot's section.
@@ -21,4 +22,14 @@ pub fn below(rows: u64, start: u64, min: u64) -> bool
     ensures { result ≡ goes min rows start }
 {
     rows > 0 && start < min
+}
+
+/// Whether a section whose rows cost `cost` so far takes a value of that length.
+pub fn has_room(cost: u64, length: u64, limit: u64) -> bool
+    ensures { result ≡ nat_le (cost + cost_of length) limit }
+{
+    // A sum that no `u64` holds is beyond every limit.
+    cost.checked_add(length)
+        .and_then(|sum| sum.checked_add(CHECK_SIZE))
+        .is_some_and(|sum| sum <= limit)
 }

@@ -1,5 +1,7 @@
 // The answer line of a command.
 
+use keys::digest::Digest;
+use keys::kind::Key;
 use script::text::{Escaped, Hex};
 use std::fmt;
 use summary::total::SectionTotal;
@@ -11,14 +13,12 @@ pub enum Answer<'a> {
         sum: u32,
         digit: u8,
     },
-    Digest([u8; 32]),
+    Digest(Digest),
     Translated {
         translated: u64,
         hash: u64,
     },
     Hash(u32),
-    /// A journal is to begin; the answer stands only once it has.
-    Ready,
     Row(u64),
     Entry {
         number: u64,
@@ -31,10 +31,6 @@ pub enum Answer<'a> {
         floor: u64,
     },
     Sections(Vec<SectionTotal>),
-}
-
-fn yes_or_no(b: bool) -> &'static str {
-    if b { "yes" } else { "no" }
 }
 
 // Sections parted by commas.
@@ -66,8 +62,8 @@ impl fmt::Display for Answer<'_> {
                 f,
                 "{number} good, sum {sum}, digit {digit}"
             ),
-            Answer::Digest(bytes) => {
-                let digits = Hex(bytes);
+            Answer::Digest(digest) => {
+                let digits = Hex(digest.as_bytes());
                 write!(f, "{digits} good")
             }
             Answer::Translated { translated, hash } => write!(
@@ -78,7 +74,6 @@ impl fmt::Display for Answer<'_> {
                 let hash = *hash;
                 write!(f, "{hash:08X}")
             }
-            Answer::Ready => write!(f, "journal ready"),
             Answer::Row(position) => write!(f, "row {position}"),
             Answer::Entry {
                 number,
@@ -90,7 +85,7 @@ impl fmt::Display for Answer<'_> {
             }
             Answer::Value(value) => show_value(value.as_slice(), f),
             Answer::Cut { gone, floor } => {
-                let gone = yes_or_no(*gone);
+                let gone = if *gone { "yes" } else { "no" };
                 write!(f, "cut {gone} floor {floor}")
             }
             Answer::Sections(totals) => show_sections(totals.as_slice(), f),

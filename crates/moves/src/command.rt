@@ -4,7 +4,7 @@ use journal::limits::Limits;
 use keys::translator::{AnyTranslator, Fnv, Leading};
 use std::fmt;
 
-#[derive(Clone, Copy)]
+#[derive(Clone, Copy, Debug, PartialEq, Eq)]
 pub enum Command<'a> {
     Ask(Question<'a>),
     /// Begins a journal of memory rows.
@@ -13,7 +13,7 @@ pub enum Command<'a> {
 }
 
 /// What is asked of the kinds of key, and of no journal.
-#[derive(Clone, Copy)]
+#[derive(Clone, Copy, Debug, PartialEq, Eq)]
 pub enum Question<'a> {
     Box(&'a str),
     Digest(&'a str),
@@ -22,7 +22,7 @@ pub enum Question<'a> {
 }
 
 /// A call on the journal that was begun last.
-#[derive(Clone, Copy)]
+#[derive(Clone, Copy, Debug, PartialEq, Eq)]
 pub enum JournalCall<'a> {
     Append {
         start: u64,
@@ -30,22 +30,22 @@ pub enum JournalCall<'a> {
         key: &'a str,
         value: &'a str,
     },
-    ReadEntry {
-        start: u64,
-        position: u64,
-        room: Option<u64>,
-    },
-    ReadValue {
-        start: u64,
-        position: u64,
-        room: Option<u64>,
-    },
+    ReadEntry(Row),
+    ReadValue(Row),
     Cut(u64),
     Sections,
 }
 
+/// A row to read, and the size of the buffer to read it into, where the line names one.
+#[derive(Clone, Copy, Debug, PartialEq, Eq)]
+pub struct Row {
+    pub start: u64,
+    pub position: u64,
+    pub room: Option<u64>,
+}
+
 /// What keeps a line from being understood.
-#[derive(Clone, Copy)]
+#[derive(Clone, Copy, Debug, PartialEq, Eq)]
 pub enum Misread {
     NotUtf8,
     UnknownCommand,
@@ -59,25 +59,71 @@ pub enum Misread {
     NoJournal,
 }
 
-fn words(misread: Misread) -> &'static str {
-    match misread {
-        Misread::NotUtf8 => "not UTF-8",
-        Misread::UnknownCommand => "unknown command",
-        Misread::MissingWord => "a word is missing",
-        Misread::SurplusWord => "a word too many",
-        Misread::NotANumber => "not a number below 2^64",
-        Misread::UnknownTranslator => "unknown translator",
-        Misread::UnknownJournal => "unknown kind of journal",
-        Misread::NotHexadecimal => "not hexadecimal",
-        Misread::OddDigits => "an odd count of hexadecimal digits",
-        Misread::NoJournal => "no journal is begun",
+impl fmt::Display for Misread {
+    fn fmt<W: fmt::Write>(&self, f: &mut fmt::Formatter<W>) -> fmt::Result {
+        f.write_str(match self {
+            Misread::NotUtf8 => "not UTF-8",
+            Misread::UnknownCommand => "unknown command",
+            Misread::MissingWord => "a word is missing",
+            Misread::SurplusWord => "a word too many",
+            Misread::NotANumber => "not a number below 2^64",
+            Misread::UnknownTranslator => "unknown translator",
+            Misread::UnknownJournal => "unknown kind of journal",
+            Misread::NotHexadecimal => "not hexadecimal",
+            Misread::OddDigits => "an odd count of hexadecimal digits",
+            Misread::NoJournal => "no journal is begun",
+        })
     }
 }
 
-impl fmt::Display for Misread {
-    fn fmt<W: fmt::Write>(&self, f: &mut fmt::Formatter<W>) -> fmt::Result {
-        let words = words(*self);
-        write!(f, "{words}")
+// What is left of a line: words behind one space each.
+#[derive(Clone, Copy)]
+struct Rest<'a>(Option<&'a str>);
+
+impl<'a> Rest<'a> {
+    // The text to the line's end; none is the empty one.
+    fn text(self) -> &'a str {
+        self.0.unwrap_or("")
+    }
+
+    // Nothing may follow.
+    fn end(self) -> Result<(), Misread> {
+        match self.0 {
+            Some(_) => Err(Misread::SurplusWord),
+            None => Ok(()),
+        }
+    }
+
+    // The next word, where an empty one is a missing one.
+    fn word(&mut self) -> Result<&'a str, Misread> {
+        let (word, behind) = cut(self.0.ok_or(Misread::MissingWord)?);
+        if word.is_empty() {
+            return Err(Misread::MissingWord);
+        }
+        self.0 = behind;
+        Ok(word)
+    }
+
+    fn number(&mut self) -> Result<u64, Misread> {
+        number(self.word()?)
+    }
+
+    fn last_word(mut self) -> Result<&'a str, Misread> {
+        let word = self.word()?;
+        self.end()?;
+        Ok(word)
+    }
+
+    fn last_number(self) -> Result<u64, Misread> {
+        number(self.last_word()?)
+    }
+
+    // The last number, where anything follows.
+    fn number_or_none(self) -> Result<Option<u64>, Misread> {
+        match self.0 {
+            Some(_) => Ok(Some(self.last_number()?)),
+            None => Ok(None),
+        }
     }
 }
 
@@ -89,64 +135,12 @@ fn cut(line: &str) -> (&str, Option<&str>) {
     }
 }
 
-// The next word of a line, and what follows it; an empty word is a missing one.
-fn next_word<'a>(rest: Option<&'a str>) -> Result<(&'a str, Option<&'a str>), Misread> {
-    let Some(rest) = rest else {
-        return Err(Misread::MissingWord);
-    };
-    let (word, behind) = cut(rest);
-    if word.is_empty() {
-        return Err(Misread::MissingWord);
-    }
-    Ok((word, behind))
-}
-
-// Nothing may follow.
-fn line_ends(rest: Option<&str>) -> Result<(), Misread> {
-    match rest {
-        Some(_) => Err(Misread::SurplusWord),
-        None => Ok(()),
-    }
-}
-
-fn last_word<'a>(rest: Option<&'a str>) -> Result<&'a str, Misread> {
-    let (word, behind) = next_word(rest)?;
-    line_ends(behind)?;
-    Ok(word)
-}
-
-// Decimal digits and nothing else, not even a sign.
+// Decimal digits and nothing else, not even a sign, which `parse` would take.
 fn number(word: &str) -> Result<u64, Misread> {
-    let mut n: u64 = 0;
-    for b in word.bytes() {
-        let b'0'..=b'9' = b else {
-            return Err(Misread::NotANumber);
-        };
-        let Some(tens) = n.checked_mul(10) else {
-            return Err(Misread::NotANumber);
-        };
-        let Some(more) = tens.checked_add(u64::from(b - b'0')) else {
-            return Err(Misread::NotANumber);
-        };
-        n = more;
+    if !word.bytes().all(|b| b.is_ascii_digit()) {
+        return Err(Misread::NotANumber);
     }
-    Ok(n)
-}
-
-fn next_number<'a>(rest: Option<&'a str>) -> Result<(u64, Option<&'a str>), Misread> {
-    let (word, behind) = next_word(rest)?;
-    Ok((number(word)?, behind))
-}
-
-fn last_number(rest: Option<&str>) -> Result<u64, Misread> {
-    number(last_word(rest)?)
-}
-
-fn number_or_none(rest: Option<&str>) -> Result<Option<u64>, Misread> {
-    match rest {
-        Some(_) => Ok(Some(last_number(rest)?)),
-        None => Ok(None),
-    }
+    word.parse().map_err(|_| Misread::NotANumber)
 }
 
 fn translator(name: &str) -> Result<AnyTranslator, Misread> {
@@ -160,24 +154,23 @@ fn translator(name: &str) -> Result<AnyTranslator, Misread> {
     }
 }
 
-fn translate<'a>(rest: Option<&'a str>) -> Result<Command<'a>, Misread> {
-    let (by, rest) = next_word(rest)?;
-    let key = last_word(rest)?;
+fn translate<'a>(mut rest: Rest<'a>) -> Result<Command<'a>, Misread> {
+    let by = rest.word()?;
+    let key = rest.last_word()?;
     Ok(Command::Ask(Question::Translate {
         by: translator(by)?,
         key,
     }))
 }
 
-fn begin_journal<'a>(rest: Option<&'a str>) -> Result<Command<'a>, Misread> {
-    let (kind, rest) = next_word(rest)?;
-    if kind != "memory" {
+fn begin_journal<'a>(mut rest: Rest<'a>) -> Result<Command<'a>, Misread> {
+    if rest.word()? != "memory" {
         return Err(Misread::UnknownJournal);
     }
-    let (width, rest) = next_number(rest)?;
-    let (slots, rest) = next_number(rest)?;
-    let (rows, rest) = next_number(rest)?;
-    let bytes = last_number(rest)?;
+    let width = rest.number()?;
+    let slots = rest.number()?;
+    let rows = rest.number()?;
+    let bytes = rest.last_number()?;
     Ok(Command::Begin(Limits {
         slots,
         rows,
@@ -186,56 +179,42 @@ fn begin_journal<'a>(rest: Option<&'a str>) -> Result<Command<'a>, Misread> {
     }))
 }
 
-fn append<'a>(rest: Option<&'a str>) -> Result<Command<'a>, Misread> {
-    let (start, rest) = next_number(rest)?;
-    let (number, rest) = next_number(rest)?;
-    let (key, rest) = next_word(rest)?;
+fn append<'a>(mut rest: Rest<'a>) -> Result<Command<'a>, Misread> {
     Ok(Command::Call(JournalCall::Append {
-        start,
-        number,
-        key,
-        value: rest.unwrap_or(""),
+        start: rest.number()?,
+        number: rest.number()?,
+        key: rest.word()?,
+        value: rest.text(),
     }))
 }
 
 // A row's place, and the size of the buffer to read it into, where one is given.
-fn row(rest: Option<&str>) -> Result<(u64, u64, Option<u64>), Misread> {
-    let (start, rest) = next_number(rest)?;
-    let (position, rest) = next_number(rest)?;
-    Ok((start, position, number_or_none(rest)?))
+fn row_to_read(mut rest: Rest<'_>) -> Result<Row, Misread> {
+    Ok(Row {
+        start: rest.number()?,
+        position: rest.number()?,
+        room: rest.number_or_none()?,
+    })
 }
 
 impl<'a> TryFrom<&'a str> for Command<'a> {
     type Error = Misread;
 
     fn try_from(line: &'a str) -> Result<Command<'a>, Misread> {
-        let (name, rest) = cut(line);
+        let (name, behind) = cut(line);
+        let rest = Rest(behind);
         match name {
-            "box" => Ok(Command::Ask(Question::Box(rest.unwrap_or("")))),
-            "digest" => Ok(Command::Ask(Question::Digest(last_word(rest)?))),
+            "box" => Ok(Command::Ask(Question::Box(rest.text()))),
+            "digest" => Ok(Command::Ask(Question::Digest(rest.last_word()?))),
             "translate" => translate(rest),
-            "fnv" => Ok(Command::Ask(Question::Fnv(rest.unwrap_or("")))),
+            "fnv" => Ok(Command::Ask(Question::Fnv(rest.text()))),
             "journal" => begin_journal(rest),
             "append" => append(rest),
-            "read_entry" => {
-                let (start, position, room) = row(rest)?;
-                Ok(Command::Call(JournalCall::ReadEntry {
-                    start,
-                    position,
-                    room,
-                }))
-            }
-            "read_value" => {
-                let (start, position, room) = row(rest)?;
-                Ok(Command::Call(JournalCall::ReadValue {
-                    start,
-                    position,
-                    room,
-                }))
-            }
-            "cut" => Ok(Command::Call(JournalCall::Cut(last_number(rest)?))),
+            "read_entry" => Ok(Command::Call(JournalCall::ReadEntry(row_to_read(rest)?))),
+            "read_value" => Ok(Command::Call(JournalCall::ReadValue(row_to_read(rest)?))),
+            "cut" => Ok(Command::Call(JournalCall::Cut(rest.last_number()?))),
             "sections" => {
-                line_ends(rest)?;
+                rest.end()?;
                 Ok(Command::Call(JournalCall::Sections))
             }
             _ => Err(Misread::UnknownCommand),

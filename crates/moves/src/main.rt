@@ -9,9 +9,8 @@ mod store;
 
 use answer::Answer;
 use cache::Cache;
-use command::{Command, JournalCall, Misread, Question};
+use command::{Command, JournalCall, Misread, Question, Row};
 use journal::Journal;
-use journal::limits::NOTHING;
 use journal::row::Label;
 use keys::box_number::BoxNumber;
 use keys::digest::Digest;
@@ -58,18 +57,11 @@ fn read_digest<'a>(heap: Global, text: &str) -> Result<Answer<'a>, Stop> {
     let bytes = from_hex(heap, text)?;
     let mut digest = Digest::first();
     digest.read(bytes.as_slice())?;
-    let mut out = [0; 32];
-    digest.copy_to(&mut out);
-    Ok(Answer::Digest(out))
+    Ok(Answer::Digest(digest))
 }
 
 fn is_hex(text: &str) -> bool {
-    for b in text.bytes() {
-        if hex_digit(b).is_none() {
-            return false;
-        }
-    }
-    true
+    text.bytes().all(|b| hex_digit(b).is_some())
 }
 
 fn translated<'a>(by: AnyTranslator, key: &[u8]) -> Answer<'a> {
@@ -98,16 +90,10 @@ fn buffer(heap: Global, room: u64) -> Result<Vec<u8>, Stop> {
     Ok(vec![in heap; 0; room.min(65_536) as usize]?)
 }
 
-fn read_entry<'a, J: Journal>(
-    heap: Global,
-    journal: &mut J,
-    start: u64,
-    position: u64,
-    room: Option<u64>,
-) -> Result<Answer<'a>, Stop> {
+fn read_entry<'a, J: Journal>(heap: Global, journal: &mut J, row: Row) -> Result<Answer<'a>, Stop> {
     let width = journal.limits().width;
-    let mut key = buffer(heap, room.unwrap_or(width))?;
-    let entry = journal.read_entry(start, position, key.as_mut_slice())?;
+    let mut key = buffer(heap, row.room.unwrap_or(width))?;
+    let entry = journal.read_entry(row.start, row.position, key.as_mut_slice())?;
     key.truncate(width as usize);
     Ok(Answer::Entry {
         number: entry.label.number,
@@ -116,15 +102,9 @@ fn read_entry<'a, J: Journal>(
     })
 }
 
-fn read_value<'a, J: Journal>(
-    heap: Global,
-    journal: &mut J,
-    start: u64,
-    position: u64,
-    room: Option<u64>,
-) -> Result<Answer<'a>, Stop> {
-    let mut value = buffer(heap, room.unwrap_or(4_096))?;
-    let length = journal.read_value(start, position, value.as_mut_slice())?;
+fn read_value<'a, J: Journal>(heap: Global, journal: &mut J, row: Row) -> Result<Answer<'a>, Stop> {
+    let mut value = buffer(heap, row.room.unwrap_or(4_096))?;
+    let length = journal.read_value(row.start, row.position, value.as_mut_slice())?;
     value.truncate(length as usize);
     Ok(Answer::Value(value))
 }
@@ -179,36 +159,35 @@ fn call<'a, J: Journal>(
             key,
             value,
         } => append(heap, journal, start, number, key, value),
-        JournalCall::ReadEntry {
-            start,
-            position,
-            room,
-        } => read_entry(heap, journal, start, position, room),
-        JournalCall::ReadValue {
-            start,
-            position,
-            room,
-        } => read_value(heap, journal, start, position, room),
+        JournalCall::ReadEntry(row) => read_entry(heap, journal, row),
+        JournalCall::ReadValue(row) => read_value(heap, journal, row),
         JournalCall::Cut(min) => cut(journal, min),
         JournalCall::Sections => sections(heap, journal),
     }
 }
 
-// What a line comes to: an answer, and the memory of the journal that it begins, if it does.
+// What a line comes to.
+enum Outcome<'a> {
+    Answered(Answer<'a>),
+    /// A journal is to begin, in this memory.
+    Begun(Store),
+}
+
 fn obey<'a, J: Journal>(
     heap: Global,
-    journal: &mut J,
-    begun: bool,
+    journal: Option<&mut J>,
     line: &'a Line,
-) -> Result<(Answer<'a>, Option<Store>), Stop> {
-    let Ok(text) = std::str::from_utf8(line.bytes.as_slice()) else {
-        return Err(Stop::Misread(Misread::NotUtf8));
-    };
+) -> Result<Outcome<'a>, Stop> {
+    let text = std::str::from_utf8(line.bytes.as_slice()).map_err(|_| Stop::Misread(
+        Misread::NotUtf8,
+    ))?;
     match Command::try_from(text)? {
-        Command::Ask(question) => Ok((ask(heap, question)?, None)),
-        Command::Begin(limits) => Ok((Answer::Ready, Some(Store::try_from((heap, limits))?))),
-        Command::Call(_) if !begun => Err(Stop::Misread(Misread::NoJournal)),
-        Command::Call(asked) => Ok((call(heap, journal, asked)?, None)),
+        Command::Ask(question) => Ok(Outcome::Answered(ask(heap, question)?)),
+        Command::Begin(limits) => Ok(Outcome::Begun(Store::try_from((heap, limits))?)),
+        Command::Call(asked) => {
+            let journal = journal.ok_or(Misread::NoJournal)?;
+            Ok(Outcome::Answered(call(heap, journal, asked)?))
+        }
     }
 }
 
@@ -216,20 +195,27 @@ fn obey<'a, J: Journal>(
 fn respond<J: Journal>(
     rt: &HostRuntime,
     counts: &mut Counts,
-    journal: &mut J,
-    begun: bool,
+    journal: Option<&mut J>,
     line: &Line,
 ) -> io::Result<Option<Store>> {
-    match obey(rt.alloc(), journal, begun, line) {
-        Ok((answer, store)) => {
+    match obey(rt.alloc(), journal, line) {
+        Ok(outcome) => {
             counts.commands = counts.commands.saturating_add(1);
-            rt.println(answer)?;
-            Ok(store)
+            match outcome {
+                Outcome::Answered(answer) => {
+                    rt.println(answer)?;
+                    Ok(None)
+                }
+                Outcome::Begun(store) => {
+                    rt.println("journal ready")?;
+                    Ok(Some(store))
+                }
+            }
         }
-        Err(Stop::Refused(parts)) => {
+        Err(Stop::Refused(fault)) => {
             counts.commands = counts.commands.saturating_add(1);
             counts.refused = counts.refused.saturating_add(1);
-            rt.println(Refusal(parts))?;
+            rt.println(Refusal(fault))?;
             Ok(None)
         }
         Err(Stop::Misread(misread)) => {
@@ -242,19 +228,19 @@ fn respond<J: Journal>(
     }
 }
 
-// Answers lines over one journal, until the script ends or begins another.
+// Answers lines over one journal, or over none yet, until the script ends or begins another.
 fn serve<J: Journal + Drop>(
     rt: &HostRuntime,
     script: &mut Script,
-    below: J,
-    begun: bool,
+    below: Option<J>,
 ) -> io::Result<Option<Store>> {
-    let mut journal = Cache::over(below);
+    let mut journal = below.map(Cache::over);
+    // Counted, since a loop has to be seen to end, and how much input there is nobody knows.
     for _ in 0..u64::MAX {
         let Some(line) = script.next_line()? else {
             return Ok(None);
         };
-        if let Some(store) = respond(rt, &mut script.counts, &mut journal, begun, &line)? {
+        if let Some(store) = respond(rt, &mut script.counts, journal.as_mut(), &line)? {
             return Ok(Some(store));
         }
     }
@@ -262,23 +248,14 @@ fn serve<J: Journal + Drop>(
 }
 
 // Answers lines over a journal of memory rows in this memory.
-fn serve_memory(
-    rt: &HostRuntime,
-    script: &mut Script,
-    store: Store,
-    begun: bool,
-) -> io::Result<Option<Store>> {
+fn serve_memory(rt: &HostRuntime, script: &mut Script, store: Store) -> io::Result<Option<Store>> {
     let Store {
         mut records,
         mut bytes,
         limits,
     } = store;
-    serve(
-        rt,
-        script,
-        Memory::start(records.as_mut_slice(), bytes.as_mut_slice(), limits),
-        begun,
-    )
+    let memory = Memory::start(records.as_mut_slice(), bytes.as_mut_slice(), limits);
+    serve(rt, script, Some(memory))
 }
 
 fn main(rt: HostRuntime) -> io::Result<()> {
@@ -293,17 +270,13 @@ fn main(rt: HostRuntime) -> io::Result<()> {
             misread: 0,
         },
     };
-    let nothing = Store {
-        records: Vec::new(heap),
-        bytes: Vec::new(heap),
-        limits: NOTHING,
-    };
-    let mut next = serve_memory(&rt, &mut script, nothing, false)?;
+    let mut next = serve::<Memory>(&rt, &mut script, None)?;
+    // Counted, as above.
     for _ in 0..u64::MAX {
         let Some(store) = next else {
             break;
         };
-        next = serve_memory(&rt, &mut script, store, true)?;
+        next = serve_memory(&rt, &mut script, store)?;
     }
     let Counts {
         commands,

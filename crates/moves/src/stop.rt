@@ -2,12 +2,13 @@
 
 use crate::command::Misread;
 use journal::fault::JournalFault;
-use keys::fault::{FaultParts, KeyFault};
+use keys::fault::KeyFault;
+use rules::fault::ArchiveFault;
 use std::alloc::{AllocError, AllocFailed};
 
 pub enum Stop {
     Misread(Misread),
-    Refused(FaultParts),
+    Refused(ArchiveFault),
     NoMemory,
 }
 
@@ -19,13 +20,13 @@ impl From<Misread> for Stop {
 
 impl From<KeyFault> for Stop {
     fn from(fault: KeyFault) -> Stop {
-        Stop::Refused(fault.parts())
+        Stop::Refused(fault.into())
     }
 }
 
 impl From<JournalFault> for Stop {
     fn from(fault: JournalFault) -> Stop {
-        Stop::Refused(fault.parts())
+        Stop::Refused(fault.into())
     }
 }
 

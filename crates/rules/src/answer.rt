@@ -1,14 +1,14 @@
 // What the archive's calls answer where they do not refuse.
 
-/// Where a kept record lies: its move number, and its position in the section of that number.
-#[derive(Clone, Copy)]
+/// Where a kept record lies: its move number, and its position in the section of that number. Places are in order of both.
+#[derive(Clone, Copy, Debug, PartialEq, Eq, PartialOrd, Ord)]
 pub struct Place {
     pub number: u64,
     pub position: u64,
 }
 
 /// What came of a put.
-#[derive(Clone, Copy)]
+#[derive(Clone, Copy, Debug, PartialEq, Eq)]
 pub enum Put {
     BelowFloor,
     AlreadyThere,
@@ -16,14 +16,14 @@ pub enum Put {
 }
 
 /// A record whose value was read: its place, and how many bytes of the buffer are now the value.
-#[derive(Clone, Copy)]
+#[derive(Clone, Copy, Debug, PartialEq, Eq)]
 pub struct Found {
     pub place: Place,
     pub length: u64,
 }
 
 /// What came of a prune.
-#[derive(Clone, Copy)]
+#[derive(Clone, Copy, Debug, PartialEq, Eq)]
 pub enum Pruned {
     /// The floor was there already, or above.
     Unchanged,
@@ -31,13 +31,13 @@ pub enum Pruned {
 }
 
 /// A listing by key: how many places were filled, and how many kept records share the translated key.
-#[derive(Clone, Copy)]
+#[derive(Clone, Copy, Debug, PartialEq, Eq)]
 pub struct Listed {
     pub count: u64,
     pub candidates: u64,
 }
 
-#[derive(Clone, Copy)]
+#[derive(Clone, Copy, Debug, PartialEq, Eq)]
 pub struct Counts {
     pub records: u64,
     /// How many different move numbers the records bear.
@@ -47,7 +47,7 @@ pub struct Counts {
 }
 
 /// The answer of any call, as a turn keeps it.
-#[derive(Clone, Copy)]
+#[derive(Clone, Copy, Debug, PartialEq, Eq)]
 pub enum Reply {
     Loaded { records: u64 },
     Put(Put),

@@ -1,13 +1,13 @@
 // What the archive refuses: cases of its own, and those of the two layers below it whole.
 
 ghost use Rattle.std.specs.Prelude.{◌≡◌};
-ghost use Rattle.rules.specs.Faults.{parts, parts_of};
+ghost use Rattle.rules.specs.Faults.{parts_of};
 ghost use Rattle.rules.specs.declared.fault.ArchiveFault.TheVariants.{Key, Journal};
 
 use journal::fault::JournalFault;
 use keys::fault::{FaultParts, KeyFault};
 
-#[derive(Clone, Copy)]
+#[derive(Clone, Copy, Debug, PartialEq, Eq)]
 pub enum ArchiveFault {
     /// A load with a section size of 0 or above 64.
     SectionSize,
@@ -31,17 +31,14 @@ pub enum ArchiveFault {
     Journal(JournalFault),
 }
 
-fn archive_parts(number: u64, section: u64, position: u64, amount: u64) -> FaultParts
-    ensures { result ≡ parts number section position amount }
-{
-    FaultParts {
-        number,
-        layer: 3,
-        section,
-        position,
-        amount,
-    }
-}
+// What no refusal of this layer names is 0.
+const BARE: FaultParts = FaultParts {
+    number: 0,
+    layer: 3,
+    section: 0,
+    position: 0,
+    amount: 0,
+};
 
 impl ArchiveFault {
     /// The five parts; what a refusal does not name is 0, and a refusal from below keeps its own.
@@ -49,20 +46,36 @@ impl ArchiveFault {
         ensures { result ≡ parts_of self.now }
     {
         match *self {
-            ArchiveFault::SectionSize => archive_parts(1, 0, 0, 0),
-            ArchiveFault::JournalLimits => archive_parts(2, 0, 0, 0),
-            ArchiveFault::KeyWidth => archive_parts(3, 0, 0, 0),
-            ArchiveFault::WrongSection { section, position } => archive_parts(
-                8, section, position, 0,
-            ),
-            ArchiveFault::NotLoaded => archive_parts(9, 0, 0, 0),
-            ArchiveFault::AlreadyLoaded => archive_parts(10, 0, 0, 0),
-            ArchiveFault::ShortListing { amount } => archive_parts(15, 0, 0, amount),
-            ArchiveFault::SlotTooLarge => archive_parts(18, 0, 0, 0),
-            ArchiveFault::PositionTooLarge => archive_parts(19, 0, 0, 0),
+            ArchiveFault::SectionSize => FaultParts { number: 1, ..BARE },
+            ArchiveFault::JournalLimits => FaultParts { number: 2, ..BARE },
+            ArchiveFault::KeyWidth => FaultParts { number: 3, ..BARE },
+            ArchiveFault::WrongSection { section, position } => FaultParts {
+                number: 8,
+                section,
+                position,
+                ..BARE
+            },
+            ArchiveFault::NotLoaded => FaultParts { number: 9, ..BARE },
+            ArchiveFault::AlreadyLoaded => FaultParts { number: 10, ..BARE },
+            ArchiveFault::ShortListing { amount } => FaultParts {
+                number: 15,
+                amount,
+                ..BARE
+            },
+            ArchiveFault::SlotTooLarge => FaultParts { number: 18, ..BARE },
+            ArchiveFault::PositionTooLarge => FaultParts { number: 19, ..BARE },
             ArchiveFault::Key(f) => f.parts(),
             ArchiveFault::Journal(f) => f.parts(),
         }
+    }
+}
+
+/// So that `?` passes an archive's refusal up as its parts.
+impl From<ArchiveFault> for FaultParts {
+    ghost from_gives = { λ f r. r ≡ parts_of f };
+
+    fn from(f: ArchiveFault) -> FaultParts {
+        f.parts()
     }
 }
 

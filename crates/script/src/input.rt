@@ -14,7 +14,7 @@ pub struct Line {
 }
 
 /// What the last line of the output counts.
-#[derive(Clone, Copy)]
+#[derive(Clone, Copy, Debug, PartialEq, Eq)]
 pub struct Counts {
     /// The lines that were understood, refused ones among them.
     pub commands: u64,
@@ -33,27 +33,13 @@ pub struct Script {
 
 // A line without what ends it: a line feed, and a carriage return before that.
 fn without_end(line: &[u8]) -> &[u8] {
-    let line = match line.strip_suffix(b"\n") {
-        Some(shorter) => shorter,
-        None => line,
-    };
-    match line.strip_suffix(b"\r") {
-        Some(shorter) => shorter,
-        None => line,
-    }
+    let line = line.strip_suffix(b"\n").unwrap_or(line);
+    line.strip_suffix(b"\r").unwrap_or(line)
 }
 
 // Whether a line is passed over: a comment, or spaces only.
 fn is_silent(line: &[u8]) -> bool {
-    if let [b'#', ..] = line {
-        return true;
-    }
-    for b in line {
-        if *b != b' ' {
-            return false;
-        }
-    }
-    true
+    line.first() == Some(&b'#') || line.iter().all(|b| *b == b' ')
 }
 
 impl Script {
@@ -61,6 +47,7 @@ impl Script {
     pub fn next_line(&mut self) -> io::Result<Option<Line>>
         ensures { self.new.counts ≡ self.old.counts }
     {
+        // Counted, since a loop has to be seen to end, and how much input there is nobody knows.
         for _ in 0..u64::MAX {
             let mut bytes = Vec::new(self.heap);
             if self.input.read_until(b'\n', &mut bytes)? == 0 {

@@ -9,12 +9,7 @@ use std::fmt;
 pub fn hex_digit(b: u8) -> Option<u8>
     ensures { result ≡ digit_of b }
 {
-    match b {
-        b'0'..=b'9' => Some(b - b'0'),
-        b'a'..=b'f' => Some(b - b'a' + 10),
-        b'A'..=b'F' => Some(b - b'A' + 10),
-        _ => None,
-    }
+    char::from(b).to_digit(16).map(|digit| digit as u8)
 }
 
 /// Bytes, shown as lower-case hexadecimal digits.

@@ -59,7 +59,7 @@ impl<J: Journal, T: Translator, K: Key> Archive<J, T, K> {
         key: &K,
         value: &[u8],
     ) -> Result<Put, ArchiveFault>
-        ensures { Does J.fits J.meaning T.translated T.hashed K.width self.old self.new (λ s x. x ≡ put_answer s multi label (K.bytes key.now) value.now) (λ s. put_after s multi label (K.bytes key.now) value.now) result }
+        ensures { Does J.fits J.meaning T.translated T.hashed K.W self.old self.new (λ s x. x ≡ put_answer s multi label (K.bytes key.now) value.now) (λ s. put_after s multi label (K.bytes key.now) value.now) result }
     {
         let Some(size) = self.size else {
             return Err(ArchiveFault::NotLoaded);
@@ -88,7 +88,7 @@ impl<J: Journal, T: Translator, K: Key> Archive<J, T, K> {
 
     /// Stores a record, unless its number is below the floor or a kept record has it.
     pub(crate) fn put(&mut self, label: Label, key: &K, value: &[u8]) -> Result<Put, ArchiveFault>
-        ensures { Does J.fits J.meaning T.translated T.hashed K.width self.old self.new (λ s x. x ≡ put_answer s false label (K.bytes key.now) value.now) (λ s. put_after s false label (K.bytes key.now) value.now) result }
+        ensures { Does J.fits J.meaning T.translated T.hashed K.W self.old self.new (λ s x. x ≡ put_answer s false label (K.bytes key.now) value.now) (λ s. put_after s false label (K.bytes key.now) value.now) result }
     {
         self.store(false, label, key, value)
     }
@@ -100,14 +100,14 @@ impl<J: Journal, T: Translator, K: Key> Archive<J, T, K> {
         key: &K,
         value: &[u8],
     ) -> Result<Put, ArchiveFault>
-        ensures { Does J.fits J.meaning T.translated T.hashed K.width self.old self.new (λ s x. x ≡ put_answer s true label (K.bytes key.now) value.now) (λ s. put_after s true label (K.bytes key.now) value.now) result }
+        ensures { Does J.fits J.meaning T.translated T.hashed K.W self.old self.new (λ s x. x ≡ put_answer s true label (K.bytes key.now) value.now) (λ s. put_after s true label (K.bytes key.now) value.now) result }
     {
         self.store(true, label, key, value)
     }
 
     /// Strikes the sections below a minimum, which is rounded down to a section's start.
     pub(crate) fn prune(&mut self, min: u64) -> Result<Pruned, ArchiveFault>
-        ensures { Does J.fits J.meaning T.translated T.hashed K.width self.old self.new (λ s x. x ≡ prune_answer s min) (λ s. prune_after s min) result }
+        ensures { Does J.fits J.meaning T.translated T.hashed K.W self.old self.new (λ s x. x ≡ prune_answer s min) (λ s. prune_after s min) result }
     {
         let Some(size) = self.size else {
             return Err(ArchiveFault::NotLoaded);
@@ -127,7 +127,7 @@ impl<J: Journal, T: Translator, K: Key> Archive<J, T, K> {
 
     /// How many records are kept, how many numbers they bear, and the floor.
     pub(crate) fn counts(&self) -> Result<Counts, ArchiveFault>
-        ensures { Tells J.fits J.meaning T.translated T.hashed K.width self.now counts_answer result }
+        ensures { Tells J.fits J.meaning T.translated T.hashed K.W self.now counts_answer result }
     {
         if self.size.is_none() {
             return Err(ArchiveFault::NotLoaded);

@@ -11,8 +11,8 @@ invariant-loop-turn g l =
     let j = g.J.Journal in
     let m = j.meaning l.initial.journal in
     let k = coding_of g.T.Translator.translated g.T.Translator.hashed l.translator in
-    let kind = kind_of g.T.Translator.translated g.K.Key.width g.K.Key.flaw l.translator in
+    let kind = kind_of g.T.Translator.translated g.K.Key.W g.K.Key.flaw l.translator in
     (o : j.past) → j.fits o l.initial.journal →
     j.fits o l.journal
     × (j.meaning l.journal ≡ m)
-    × (Lawful m → IndexReady m (views l.initial.index) l.size g.K.Key.width → LoadedTo kind k l.size m (views l.index) l.from l.turn l.count)
+    × (Lawful m → IndexReady m (views l.initial.index) l.size g.K.Key.W → LoadedTo kind k l.size m (views l.index) l.from l.turn l.count)

@@ -6,9 +6,9 @@ use Rattle.archive.proofs.loading.index_row.Goals as goal
 pub returns-then-is_err : goal.returns-then-is_err
 returns-then-is_err g c =
     let a = c.read_entry.ensures in
-    let kind = kind_of g.T.Translator.translated g.K.Key.width g.K.Key.flaw c.args.translator.now in
+    let kind = kind_of g.T.Translator.translated g.K.Key.W g.K.Key.flaw c.args.translator.now in
     let k = coding_of g.T.Translator.translated g.T.Translator.hashed c.args.translator.now in
-    let z : c.width.result - 0 ≡ g.K.Key.width = omega (arith, c.width.ensures) in
+    let z : c.width.result - 0 ≡ g.K.Key.W = omega (arith, c.width.ensures) in
     record {
       fit = a.fit;
       after = a.after;
@@ -19,9 +19,9 @@ returns-then-is_err g c =
 pub returns-then-section_of-start : goal.returns-then-section_of-start
 returns-then-section_of-start g c =
     let a = c.read_entry.ensures in
-    let kind = kind_of g.T.Translator.translated g.K.Key.width g.K.Key.flaw c.args.translator.now in
+    let kind = kind_of g.T.Translator.translated g.K.Key.W g.K.Key.flaw c.args.translator.now in
     let k = coding_of g.T.Translator.translated g.T.Translator.hashed c.args.translator.now in
-    let z : c.width.result - 0 ≡ g.K.Key.width = omega (arith, c.width.ensures) in
+    let z : c.width.result - 0 ≡ g.K.Key.W = omega (arith, c.width.ensures) in
     record {
       fit = a.fit;
       after = a.after;
@@ -33,9 +33,9 @@ returns-then-section_of-start g c =
 pub returns-then-note : goal.returns-then-note
 returns-then-note g c =
     let a = c.read_entry.ensures in
-    let kind = kind_of g.T.Translator.translated g.K.Key.width g.K.Key.flaw c.args.translator.now in
+    let kind = kind_of g.T.Translator.translated g.K.Key.W g.K.Key.flaw c.args.translator.now in
     let k = coding_of g.T.Translator.translated g.T.Translator.hashed c.args.translator.now in
-    let z : c.width.result - 0 ≡ g.K.Key.width = omega (arith, c.width.ensures) in
+    let z : c.width.result - 0 ≡ g.K.Key.W = omega (arith, c.width.ensures) in
     record {
       fit = a.fit;
       after = a.after;

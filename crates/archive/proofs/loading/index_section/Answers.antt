@@ -8,12 +8,12 @@ use Rattle.archive.specs.Parts.{kind_of}
 use Rattle.archive.proofs.loading.index_section.Goals as goal
 
 pub loop-position-init : goal.loop-position-init
-loop-position-init g c o f = (f, refl, λ law ys ready. part_none (kind_of g.T.Translator.translated g.K.Key.width g.K.Key.flaw c.args.translator.now) _ _ _ _ _ _ _ ready)
+loop-position-init g c o f = (f, refl, λ law ys ready. part_none (kind_of g.T.Translator.translated g.K.Key.W g.K.Key.flaw c.args.translator.now) _ _ _ _ _ _ _ ready)
 
 pub returns-in_err-index_row : goal.returns-in_err-index_row
 returns-in_err-index_row g c =
     let m = g.J.Journal.meaning c.args.journal.now in
-    let kind = kind_of g.T.Translator.translated g.K.Key.width g.K.Key.flaw c.args.translator.now in
+    let kind = kind_of g.T.Translator.translated g.K.Key.W g.K.Key.flaw c.args.translator.now in
     let inv = c.loop-position.invariant in
     let a = c.index_row.ensures in
     record {
@@ -33,7 +33,7 @@ returns-in_err-index_row g c =
 pub loop-position-preserved : goal.loop-position-preserved
 loop-position-preserved g c o f =
     let m = g.J.Journal.meaning c.args.journal.now in
-    let kind = kind_of g.T.Translator.translated g.K.Key.width g.K.Key.flaw c.args.translator.now in
+    let kind = kind_of g.T.Translator.translated g.K.Key.W g.K.Key.flaw c.args.translator.now in
     let i = c.loop-position.invariant o f in
     let a = c.index_row.ensures in
     let x = c.loop-position.index in (
@@ -49,7 +49,7 @@ loop-position-preserved g c o f =
 pub returns : goal.returns
 returns g c =
     let m = g.J.Journal.meaning c.args.journal.now in
-    let kind = kind_of g.T.Translator.translated g.K.Key.width g.K.Key.flaw c.args.translator.now in
+    let kind = kind_of g.T.Translator.translated g.K.Key.W g.K.Key.flaw c.args.translator.now in
     let inv = c.loop-position.invariant in
     record {
       fit = λ o f. (inv o f).0;

@@ -11,9 +11,9 @@ invariant-loop-position g l =
     let j = g.J.Journal in
     let m = j.meaning l.initial.journal in
     let k = coding_of g.T.Translator.translated g.T.Translator.hashed l.translator in
-    let kind = kind_of g.T.Translator.translated g.K.Key.width g.K.Key.flaw l.translator in
+    let kind = kind_of g.T.Translator.translated g.K.Key.W g.K.Key.flaw l.translator in
     (o : j.past) → j.fits o l.initial.journal →
     j.fits o l.journal
     × (j.meaning l.journal ≡ m)
-    × (Lawful m → (ys : List Section) → SectionReady k m (views l.initial.index) ys l.size g.K.Key.width l.start
+    × (Lawful m → (ys : List Section) → SectionReady k m (views l.initial.index) ys l.size g.K.Key.W l.start
     → PartIn kind k l.size l.start (rows_of m.sections l.start) ys (views l.index) l.position)

@@ -19,15 +19,15 @@ returns g c =
     let l = c.in-Some.size in
     let start = c.section_of-start.result in
     let m = g.J.Journal.meaning c.prune.new.self in
-    let is = λ (o : g.J.Journal.past) (f : Fits g.J.Journal.fits g.J.Journal.meaning g.T.Translator.translated g.T.Translator.hashed g.K.Key.width o a).
-    prune_struck s c.args.min l start c.in-Some.is c.section_of-start.ensures k g.K.Key.width c.strike-struck.result.numbers c.strike-struck.result.records m (views a.index)
+    let is = λ (o : g.J.Journal.past) (f : Fits g.J.Journal.fits g.J.Journal.meaning g.T.Translator.translated g.T.Translator.hashed g.K.Key.W o a).
+    prune_struck s c.args.min l start c.in-Some.is c.section_of-start.ensures k g.K.Key.W c.strike-struck.result.numbers c.strike-struck.result.records m (views a.index)
     (sym c.is_reached.ensures ∙ c.if-is_reached.false) (fit_of a l f c.in-Some.is) f.lawful a.index.apart c.strike-struck.ensures.numbers c.strike-struck.ensures.records (b.after o f.journal) in
     record {
       fit = λ o f. record {
         journal = b.fit o f.journal;
         lawful = subst (λ x. Lawful x) (sym (b.after o f.journal)) (lawful_pruned s.journal start f.lawful);
-        index = subst (λ x. FitBy k g.K.Key.width x m (views c.strike-struck.new.self)) (sym c.in-Some.is)
-            (fit_pruned k g.K.Key.width l s.journal m (views a.index) (views c.strike-struck.new.self) start (fit_of a l f c.in-Some.is) (b.after o f.journal) c.strike-struck.ensures.views);
+        index = subst (λ x. FitBy k g.K.Key.W x m (views c.strike-struck.new.self)) (sym c.in-Some.is)
+            (fit_pruned k g.K.Key.W l s.journal m (views a.index) (views c.strike-struck.new.self) start (fit_of a l f c.in-Some.is) (b.after o f.journal) c.strike-struck.ensures.views);
       };
       answer = λ o f. (is o f).answer;
       after = λ o f. (is o f).after;

@@ -20,7 +20,7 @@ returns-then-is_taken g c =
     let a = c.args.self.now in
     let s = state_of g.J.Journal.meaning a in
     let l = c.in-Some.size in
-    let is = λ (o : g.J.Journal.past) (f : Fits g.J.Journal.fits g.J.Journal.meaning g.T.Translator.translated g.T.Translator.hashed g.K.Key.width o a).
+    let is = λ (o : g.J.Journal.past) (f : Fits g.J.Journal.fits g.J.Journal.meaning g.T.Translator.translated g.T.Translator.hashed g.K.Key.W o a).
     already s c.args.multi c.args.label (g.K.Key.bytes c.args.key.now) c.args.value.now l c.in-Some.is (omega (arith, c.floor_number.ensures, c.if-number-floor_number.false))
     (there_by _ _ l s (views a.index) c.args.multi c.is_taken.result c.args.label.number c.section_of-start.result c.saturating_sub-offset.result (fit_of a l f c.in-Some.is) f.lawful c.section_of-start.ensures c.saturating_sub-offset.ensures c.is_taken.ensures
     ∙ c.if-is_taken.true) in
@@ -44,7 +44,7 @@ returns-in_err-position g c =
     let answer = λ (o : g.J.Journal.past) (f : g.J.Journal.fits o a.journal).
     sym c.in_err-position.was ∙ b.answer o f ∙ ap (λ x. append_answer s.journal start x c.args.value.now) same in
     let after = λ (o : g.J.Journal.past) (f : g.J.Journal.fits o a.journal). b.after o f ∙ ap (λ x. appended s.journal start c.args.label x c.args.value.now) same in
-    let is = λ (o : g.J.Journal.past) (f : Fits g.J.Journal.fits g.J.Journal.meaning g.T.Translator.translated g.T.Translator.hashed g.K.Key.width o a).
+    let is = λ (o : g.J.Journal.past) (f : Fits g.J.Journal.fits g.J.Journal.meaning g.T.Translator.translated g.T.Translator.hashed g.K.Key.W o a).
     tried s c.args.multi c.args.label key c.args.value.now l c.in-Some.is start m (Err fault) (omega (arith, c.floor_number.ensures, c.if-number-floor_number.false))
     (there_by _ _ l s (views a.index) c.args.multi c.is_taken.result c.args.label.number start c.saturating_sub-offset.result (fit_of a l f c.in-Some.is) f.lawful c.section_of-start.ensures
     c.saturating_sub-offset.ensures c.is_taken.ensures ∙ c.if-is_taken.false)
@@ -69,7 +69,7 @@ returns-then-not-note g c =
     let same : take (w.width - 0) w.bytes ≡ key = ap (λ i. take i w.bytes) z ∙ c.coded-wanted.ensures.bytes in
     let b = c.append.ensures in
     let m = g.J.Journal.meaning c.append.new.self in
-    let never = λ (o : g.J.Journal.past) (f : Fits g.J.Journal.fits g.J.Journal.meaning g.T.Translator.translated g.T.Translator.hashed g.K.Key.width o a).
+    let never = λ (o : g.J.Journal.past) (f : Fits g.J.Journal.fits g.J.Journal.meaning g.T.Translator.translated g.T.Translator.hashed g.K.Key.W o a).
     both_ways _ c.if-not-note.true
     (c.note.ensures.is ∙ ap (has_room (views a.index) start) c.saturating_sub-offset.ensures
     ∙ room_for _ _ l s.journal m (views a.index) start c.in_ok-position.position c.args.label key c.args.value.now (fit_of a l f c.in-Some.is) f.lawful a.index.apart (sym c.section_of-start.ensures)
@@ -101,7 +101,7 @@ returns g c =
     (subst (λ x. Noted (views a.index) (views c.note.new.self) start c.saturating_sub-offset.result x (bucket_of (k.hashed (k.translated key)))) c.coded-wanted.ensures.code
     (subst (λ x. Noted (views a.index) (views c.note.new.self) start c.saturating_sub-offset.result w.code (bucket_of x)) (c.coded-wanted.ensures.hash ∙ ap k.hashed c.coded-wanted.ensures.code)
     (c.note.ensures.starts c.if-not-note.false))) in
-    let is = λ (o : g.J.Journal.past) (f : Fits g.J.Journal.fits g.J.Journal.meaning g.T.Translator.translated g.T.Translator.hashed g.K.Key.width o a).
+    let is = λ (o : g.J.Journal.past) (f : Fits g.J.Journal.fits g.J.Journal.meaning g.T.Translator.translated g.T.Translator.hashed g.K.Key.W o a).
     tried s c.args.multi c.args.label key value l c.in-Some.is start m (Ok p) (omega (arith, c.floor_number.ensures, c.if-number-floor_number.false))
     (there_by _ _ l s (views a.index) c.args.multi c.is_taken.result c.args.label.number start c.saturating_sub-offset.result (fit_of a l f c.in-Some.is) f.lawful c.section_of-start.ensures
     c.saturating_sub-offset.ensures c.is_taken.ensures ∙ c.if-is_taken.false)
@@ -110,8 +110,8 @@ returns g c =
       fit = λ o f. record {
         journal = b.fit o f.journal;
         lawful = subst (λ x. Lawful x) (sym (after o f.journal)) (lawful_appended s.journal start c.args.label key value low f.lawful);
-        index = subst (λ x. FitBy k g.K.Key.width x m (views c.note.new.self)) (sym c.in-Some.is)
-            (fit_appended k g.K.Key.width l s.journal m (views a.index) start p c.args.label key value (fit_of a l f c.in-Some.is) f.lawful a.index.apart (sym c.section_of-start.ensures)
+        index = subst (λ x. FitBy k g.K.Key.W x m (views c.note.new.self)) (sym c.in-Some.is)
+            (fit_appended k g.K.Key.W l s.journal m (views a.index) start p c.args.label key value (fit_of a l f c.in-Some.is) f.lawful a.index.apart (sym c.section_of-start.ensures)
             (sym (answer o f.journal)) (after o f.journal) (views c.note.new.self) noted);
       };
       answer = λ o f. (is o f).answer;
