@@ -1,7 +1,7 @@
 // The entry cache: a journal over any other, which answers repeated entry reads from a table of its own.
 #![tactic(auto)]
 
-mod slot;
+mod row_copy;
 mod table;
 
 pub use table::cache::Cache;

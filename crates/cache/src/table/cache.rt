@@ -1,11 +1,11 @@
 // The cache as a journal, and what it promises beside that.
 
-ghost use Rattle.std.specs.Prelude.{◌≡◌, ◌<◌, ◌≤◌, length, replicate};
-ghost use Rattle.cache.specs.Table.{vacant, held};
+ghost use Rattle.std.specs.Prelude.{◌≡◌, ◌<◌, replicate, None};
+ghost use Rattle.cache.specs.Table.{held};
 ghost use Rattle.cache.specs.Fit.{CacheFits, Fetches, Wide};
 
-use super::{empty_table, find, forget, hit, keep};
-use crate::slot::Slot;
+use super::{find, forget};
+use crate::row_copy::RowCopy;
 use journal::Journal;
 use journal::fault::JournalFault;
 use journal::limits::Limits;
@@ -16,10 +16,9 @@ use journal::row::{Entry, Label};
 #[derive(Drop)]
 pub struct Cache<J> {
     below: J,
-    slots: [Slot; 16],
+    slots: [Option<RowCopy>; 16],
     /// The place that the next copy takes; they are taken in turn.
     next: usize,
-    ghost long: { length slots ≡ 16 },
     ghost within: { next < 16 },
 }
 
@@ -27,12 +26,12 @@ impl<J: Journal> Cache<J> {
     /// A cache over `below`, with no copies yet.
     pub fn over(below: J) -> Cache<J>
         ensures same { result.below ≡ below }
-        ensures empty { result.slots ≡ replicate 16 vacant }
+        ensures empty { result.slots ≡ replicate 16 None }
         ensures fit { (o : J.Journal.past) → J.Journal.fits o below → CacheFits J.Journal.fits J.Journal.meaning o result.below result.slots }
     {
         Cache {
             below,
-            slots: empty_table(),
+            slots: [None; 16],
             next: 0,
         }
     }
@@ -48,12 +47,7 @@ impl<J: Journal> Cache<J> {
     pub fn into_below(self) -> J
         ensures { result ≡ self.below }
     {
-        let Cache {
-            below,
-            slots: _,
-            next: _,
-        } = self;
-        below
+        self.below
     }
 
     /// Whether the table has a copy of that row.
@@ -67,8 +61,7 @@ impl<J: Journal> Cache<J> {
     fn key_width(&self) -> usize
         ensures { Wide J.Journal.fits J.Journal.meaning self.now.below result }
     {
-        let width = self.below.limits().width;
-        if width <= 32 { width as usize } else { 32 }
+        self.below.limits().width.min(32) as usize
     }
 
     /// Reads an entry as every journal does; an accepted read leaves a copy of its row in the table, and the read of a row
@@ -83,14 +76,14 @@ impl<J: Journal> Cache<J> {
     {
         let width = self.key_width();
         match find(&self.slots, start, position) {
-            Some(x) => hit(x, width, start, position, key),
+            Some(copy) => copy.read(width, key),
             None => {
                 let entry = self.below.read_entry(start, position, key)?;
                 // An accepted read had room for the key; a journal that does not fit could say otherwise.
                 if width <= key.len() {
-                    let at = self.next;
-                    keep(&mut self.slots, at, start, position, entry, key, width);
-                    self.next = (at + 1) % 16;
+                    let copy = RowCopy::new(start, position, entry, &key[..width]);
+                    self.slots[self.next] = Some(copy);
+                    self.next = (self.next + 1) % 16;
                 }
                 Ok(entry)
             }
