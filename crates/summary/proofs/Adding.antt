@@ -1,6 +1,6 @@
 -- Adding up the rows of a section, one read after another. Assumes nothing.
-use Rattle.std.proofs.Common.{◌≡◌, ℕ, zero, suc, ◌+◌, ◌-◌, ◌^◌, ◌<◌, ◌≤◌, min, List, [], ◌∷◌, length, get_or, take, Ok, Err, Result, sym, ap, ◌∙◌, arith}
-use Rattle.std.proofs.lemmas.List.{take_more, take_all}
+use Rattle.std.proofs.Common.{◌≡◌, ℕ, zero, suc, ◌+◌, ◌-◌, ◌^◌, ◌<◌, ◌≤◌, min, List, [], ◌∷◌, length, get_or, take, Ok, Result, sym, ap, ◌∙◌, arith}
+use Rattle.std.proofs.lemmas.List.{take_more}
 use Rattle.std.proofs.lemmas.Option.{slice_get-get_or}
 use Rattle.std.proofs.lemmas.Bool.{cond-false, le-ltb}
 use Rattle.journal.specs.declared.row.Entry.{Entry}
@@ -31,11 +31,6 @@ module _ (m m' : Meaning) (s p room : ℕ) (to : m' ≡ m) (lawful : Lawful m) (
       ∙ ap (λ o. entry_answer o m.limits.width s p room) (slice_get-get_or (rows_of m.sections s) p no_row inside)
       ∙ cond-false _ _ _ (le-ltb _ _ fit)
 
-  pub no_fault : (f : JournalFault) → entry_read m' s p room ≡ Err f → ⊥
-  no_fault f h =
-      let k : ◌≡◌ {A = Result Entry JournalFault} (Ok (entry_of the_row)) (Err f) = sym reads ∙ h in
-      let z : ◌≡◌ {A = ℕ} 0 1 = cc in omega arith
-
   more : cost (take (p + 1) (rows_of m.sections s)) ≡ cost (take p (rows_of m.sections s)) + cost_of (size the_row.content)
   unfolding the_row
   more = ap cost (take_more (rows_of m.sections s) p no_row inside) ∙ cost_push (take p (rows_of m.sections s)) (get_or (rows_of m.sections s) p no_row)
@@ -49,6 +44,3 @@ module _ (m m' : Meaning) (s p room : ℕ) (to : m' ≡ m) (lawful : Lawful m) (
       let b : cost (rows_of m.sections s) ≤ m.limits.bytes = rows_cost m.limits m.sections s lawful.within in
       let t = cost_take (p + 1) (rows_of m.sections s) in
       omega (arith, more, n, b, t, lim, low, was, is, sum)
-
-pub added : (m : Meaning) (s p n : ℕ) → length (rows_of m.sections s) ≤ p → n ≡ cost (take p (rows_of m.sections s)) → ◌≡◌ {A = Result ℕ JournalFault} (Ok n) (Ok (cost (rows_of m.sections s)))
-added m s p n all was = ap (λ (k : ℕ). Ok k) (was ∙ ap cost (take_all p (rows_of m.sections s) all))

@@ -1,7 +1,8 @@
 // A summary of what any journal keeps: for each section its rows and their cost, read row by row.
 #![tactic(auto)]
 
-ghost use Rattle.std.specs.Prelude.{◌≡◌, slice_set};
+ghost use Rattle.std.specs.Prelude.{◌≡◌, None, MatchOption, slice_set};
+ghost use Rattle.journal.specs.Promises.{TellsFirst};
 ghost use Rattle.summary.specs.Totals.{Adds, Summarises};
 
 pub mod total;
@@ -10,7 +11,7 @@ use journal::Journal;
 use journal::fault::JournalFault;
 use total::SectionTotal;
 
-// A total to its place, where there is one.
+// A total to its place, where there is one. By index, since of a slice's `get_mut` a proof learns the length alone.
 fn place_total(out: &mut [SectionTotal], i: u64, total: SectionTotal)
     ensures { out.new ≡ slice_set out.old i total }
 {
@@ -35,25 +36,27 @@ pub fn section_cost<J: Journal>(journal: &mut J, start: u64) -> Result<u64, Jour
     Ok(cost)
 }
 
+// The first kept start at or above `from`; none where there is no such number.
+fn start_from<J: Journal>(journal: &J, from: Option<u64>) -> Option<u64>
+    ensures { MatchOption from (result ≡ None) (λ n. TellsFirst J.Journal.fits J.Journal.meaning journal.now n result) }
+{
+    journal.first_start(from?)
+}
+
 /// The totals of the kept sections by rising start, as many as `out` has places for; the answer is how many are kept.
 pub fn summary<J: Journal>(journal: &mut J, out: &mut [SectionTotal]) -> Result<u64, JournalFault>
     ensures { Summarises J.Journal.fits J.Journal.meaning journal.old journal.new out.old out.new result }
 {
     let slots = journal.limits().slots;
-    let mut from = 0;
-    let mut count = 0;
+    let mut from = Some(0);
     for i in 0..slots {
-        let Some(start) = journal.first_start(from) else {
-            return Ok(count);
+        let Some(start) = start_from(journal, from) else {
+            return Ok(i);
         };
         let rows = journal.row_count(start);
         let cost = section_cost(journal, start)?;
         place_total(out, i, SectionTotal { start, rows, cost });
-        count = i + 1;
-        if start == u64::MAX {
-            return Ok(count);
-        }
-        from = start + 1;
+        from = start.checked_add(1);
     }
-    Ok(count)
+    Ok(slots)
 }

@@ -1,6 +1,6 @@
 // What a summary tells of one section.
 
-#[derive(Clone, Copy)]
+#[derive(Clone, Copy, Debug, PartialEq, Eq)]
 pub struct SectionTotal {
     pub start: u64,
     pub rows: u64,

@@ -1,22 +1,8 @@
-use Rattle.std.proofs.Common.{◌^◌, ◌<◌, ◌≤◌, length, sym, ap, ◌∙◌, arith}
+use Rattle.std.proofs.Common.{◌^◌, ◌<◌, length, sym, ap, ◌∙◌, arith}
 use Rattle.journal.specs.declared.limits.Limits.{Limits}
 use Rattle.journal.specs.Meaning.{rows_of}
-use Rattle.summary.proofs.Adding.{no_fault, step, added}
+use Rattle.summary.proofs.Adding.{step}
 use Rattle.summary.proofs.section_cost.Goals as goal
-
--- A lawful journal refuses none of these reads.
-pub returns-in_err-entry : goal.returns-in_err-entry
-returns-in_err-entry g c =
-    let m = g.J.Journal.meaning c.args.journal.now in
-    let a = c.read_entry.ensures in
-    let inv = c.loop-position.invariant in
-    record {
-      fit = λ o f. a.fit o (inv.1 o f).0;
-      answer = λ o f.
-          let inside : c.loop-position.position < length (rows_of m.sections c.args.start) = omega (arith, c.row_count-rows.ensures.answer o f) in
-          absurd (no_fault m _ c.args.start c.loop-position.position _ (inv.1 o f).1 (c.limits.ensures.lawful o f) inv.0 inside _ (sym (a.answer o (inv.1 o f).0) ∙ c.in_err-entry.was));
-      after = λ o f. a.after o (inv.1 o f).0 ∙ (inv.1 o f).1;
-    }
 
 pub loop-position-preserved : goal.loop-position-preserved
 loop-position-preserved g c =
@@ -35,15 +21,3 @@ loop-position-preserved g c =
                 (sym (a.answer o i.0) ∙ c.in_ok-entry.was) i.2 c.cost.ensures c.saturating_add-cost.ensures,
           ),
     )
-
-pub returns : goal.returns
-returns g c =
-    let m = g.J.Journal.meaning c.args.journal.now in
-    let inv = c.loop-position.invariant.1 in
-    record {
-      fit = λ o f. (inv o f).0;
-      answer = λ o f.
-          let all : length (rows_of m.sections c.args.start) ≤ c.loop-position.position = omega (arith, c.row_count-rows.ensures.answer o f) in
-          added m c.args.start c.loop-position.position _ all (inv o f).2;
-      after = λ o f. (inv o f).1;
-    }
