@@ -12,6 +12,7 @@ pub enum KeyFault {
 }
 
 /// A refusal as every layer shows it; what a refusal does not name is 0.
+// Numbers, since this is the form in which a refusal leaves the library, as docs/REFUSALS.md has it: within it they are enums.
 #[derive(Clone, Copy, Debug, PartialEq, Eq)]
 pub struct FaultParts {
     pub number: u64,

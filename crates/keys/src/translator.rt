@@ -68,6 +68,7 @@ impl Translator for Leading {
     }
 }
 
+// `hash` has one body for both kinds: as a default in the trait it would have to be right for every kind's `hashed`.
 /// FNV-1a 32 of the whole key.
 #[derive(Clone, Copy, Debug, PartialEq, Eq)]
 pub struct Fnv;
