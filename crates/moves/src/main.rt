@@ -90,52 +90,80 @@ fn buffer(heap: Global, room: u64) -> Result<Vec<u8>, Stop> {
     Ok(vec![in heap; 0; room.min(65_536) as usize]?)
 }
 
-fn read_entry<'a, J: Journal>(heap: Global, journal: &mut J, row: Row) -> Result<Answer<'a>, Stop> {
-    let width = journal.limits().width;
-    let mut key = buffer(heap, row.room.unwrap_or(width))?;
-    let entry = journal.read_entry(row.start, row.position, key.as_mut_slice())?;
-    key.truncate(width as usize);
-    Ok(Answer::Entry {
-        number: entry.label.number,
-        length: entry.length,
-        key,
-    })
-}
-
-fn read_value<'a, J: Journal>(heap: Global, journal: &mut J, row: Row) -> Result<Answer<'a>, Stop> {
-    let mut value = buffer(heap, row.room.unwrap_or(4_096))?;
-    let length = journal.read_value(row.start, row.position, value.as_mut_slice())?;
-    value.truncate(length as usize);
-    Ok(Answer::Value(value))
-}
-
-fn append<'a, J: Journal>(
+// A journal to call, and where the memory for its answers comes from.
+#[derive(Drop)]
+struct Desk<'j, J> {
     heap: Global,
-    journal: &mut J,
-    start: u64,
-    number: u64,
-    key: &str,
-    value: &str,
-) -> Result<Answer<'a>, Stop> {
-    let key = from_hex(heap, key)?;
-    let position = journal.append(start, Label { number }, key.as_slice(), value.as_bytes())?;
-    Ok(Answer::Row(position))
+    journal: &'j mut J,
 }
 
-fn sections<'a, J: Journal>(heap: Global, journal: &mut J) -> Result<Answer<'a>, Stop> {
-    let slots = journal.limits().slots.min(64);
-    let mut totals = vec![in heap; SectionTotal::NONE; slots as usize]?;
-    let kept = summary(journal, totals.as_mut_slice())?;
-    totals.truncate(kept as usize);
-    Ok(Answer::Sections(totals))
-}
+impl<J: Journal> Desk<'_, J> {
+    fn read_entry<'a>(&mut self, row: Row) -> Result<Answer<'a>, Stop> {
+        let width = self.journal.limits().width;
+        let mut key = buffer(self.heap, row.room.unwrap_or(width))?;
+        let entry = self
+            .journal
+            .read_entry(row.start, row.position, key.as_mut_slice())?;
+        key.truncate(width as usize);
+        Ok(Answer::Entry {
+            number: entry.label.number,
+            length: entry.length,
+            key,
+        })
+    }
 
-fn cut<'a, J: Journal>(journal: &mut J, min: u64) -> Result<Answer<'a>, Stop> {
-    let gone = journal.prune(min);
-    Ok(Answer::Cut {
-        gone,
-        floor: journal.floor(),
-    })
+    fn read_value<'a>(&mut self, row: Row) -> Result<Answer<'a>, Stop> {
+        let mut value = buffer(self.heap, row.room.unwrap_or(4_096))?;
+        let length = self
+            .journal
+            .read_value(row.start, row.position, value.as_mut_slice())?;
+        value.truncate(length as usize);
+        Ok(Answer::Value(value))
+    }
+
+    fn append<'a>(
+        &mut self,
+        start: u64,
+        number: u64,
+        key: &str,
+        value: &str,
+    ) -> Result<Answer<'a>, Stop> {
+        let key = from_hex(self.heap, key)?;
+        let position = self
+            .journal
+            .append(start, Label { number }, key.as_slice(), value.as_bytes())?;
+        Ok(Answer::Row(position))
+    }
+
+    fn sections<'a>(&mut self) -> Result<Answer<'a>, Stop> {
+        let slots = self.journal.limits().slots.min(64);
+        let mut totals = vec![in self.heap; SectionTotal::NONE; slots as usize]?;
+        let kept = summary(self.journal, totals.as_mut_slice())?;
+        totals.truncate(kept as usize);
+        Ok(Answer::Sections(totals))
+    }
+
+    fn cut<'a>(&mut self, min: u64) -> Answer<'a> {
+        Answer::Cut {
+            gone: self.journal.prune(min),
+            floor: self.journal.floor(),
+        }
+    }
+
+    fn call<'a>(&mut self, call: JournalCall<'a>) -> Result<Answer<'a>, Stop> {
+        match call {
+            JournalCall::Append {
+                start,
+                number,
+                key,
+                value,
+            } => self.append(start, number, key, value),
+            JournalCall::ReadEntry(row) => self.read_entry(row),
+            JournalCall::ReadValue(row) => self.read_value(row),
+            JournalCall::Cut(min) => Ok(self.cut(min)),
+            JournalCall::Sections => self.sections(),
+        }
+    }
 }
 
 fn ask<'a>(heap: Global, question: Question<'a>) -> Result<Answer<'a>, Stop> {
@@ -144,25 +172,6 @@ fn ask<'a>(heap: Global, question: Question<'a>) -> Result<Answer<'a>, Stop> {
         Question::Digest(digits) => read_digest(heap, digits),
         Question::Translate { by, key } => translate(heap, by, key),
         Question::Fnv(text) => Ok(Answer::Hash(fnv_1a_32(text.as_bytes()))),
-    }
-}
-
-fn call<'a, J: Journal>(
-    heap: Global,
-    journal: &mut J,
-    call: JournalCall<'a>,
-) -> Result<Answer<'a>, Stop> {
-    match call {
-        JournalCall::Append {
-            start,
-            number,
-            key,
-            value,
-        } => append(heap, journal, start, number, key, value),
-        JournalCall::ReadEntry(row) => read_entry(heap, journal, row),
-        JournalCall::ReadValue(row) => read_value(heap, journal, row),
-        JournalCall::Cut(min) => cut(journal, min),
-        JournalCall::Sections => sections(heap, journal),
     }
 }
 
@@ -186,7 +195,7 @@ fn obey<'a, J: Journal>(
         Command::Begin(limits) => Ok(Outcome::Begun(Store::try_from((heap, limits))?)),
         Command::Call(asked) => {
             let journal = journal.ok_or(Misread::NoJournal)?;
-            Ok(Outcome::Answered(call(heap, journal, asked)?))
+            Ok(Outcome::Answered(Desk { heap, journal }.call(asked)?))
         }
     }
 }
