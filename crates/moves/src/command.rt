@@ -143,6 +143,7 @@ fn number(word: &str) -> Result<u64, Misread> {
     word.parse().map_err(|_| Misread::NotANumber)
 }
 
+// No `FromStr`: the names are this script's, and the type is a library's.
 fn translator(name: &str) -> Result<AnyTranslator, Misread> {
     match name {
         "leading1" => Ok(AnyTranslator::Leading(Leading::One)),

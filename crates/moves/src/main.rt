@@ -29,6 +29,7 @@ use store::Store;
 use summary::summary;
 use summary::total::SectionTotal;
 
+// By hand, since the library's reader counts the digits first, and of two faults the one further left is told here.
 fn from_hex(heap: Global, text: &str) -> Result<Vec<u8>, Stop> {
     let mut bytes = Vec::new(heap);
     for pair in text.as_bytes().chunks(2) {

@@ -29,6 +29,7 @@ pub fn section_cost<J: Journal>(journal: &mut J, start: u64) -> Result<u64, Jour
     let mut key = [0u8; 32];
     let rows = journal.row_count(start);
     let mut cost = 0;
+    // Counted, since a journal is asked for a row by its position, and lends none of its rows.
     for position in 0..rows {
         let entry = journal.read_entry(start, position, &mut key)?;
         cost = entry.cost().saturating_add(cost);
@@ -49,6 +50,7 @@ pub fn summary<J: Journal>(journal: &mut J, out: &mut [SectionTotal]) -> Result<
 {
     let slots = journal.limits().slots;
     let mut from = Some(0);
+    // Counted, since a walk over starts has to be seen to end, and the count is the answer.
     for i in 0..slots {
         let Some(start) = start_from(journal, from) else {
             return Ok(i);
