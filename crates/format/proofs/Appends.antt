@@ -1,6 +1,7 @@
 -- An append, from the facts that the code finds. Assumes nothing.
-use Rattle.std.proofs.Common.{◌≡◌, ℕ, ◌+◌, ◌^◌, ◌<◌, ◌≤◌, true, false, List, length, Some, None, Ok, Err, sym, refl, ap, ◌∙◌, subst, inl, inr, ⊎_elim, arith}
+use Rattle.std.proofs.Common.{◌≡◌, ℕ, ◌+◌, ◌^◌, ◌<◌, ◌≤◌, true, false, List, length, Some, None, Ok, Err, Option, Result, MatchResult, sym, refl, ap, ◌∙◌, subst, inl, inr, ⊎_elim, arith}
 use Rattle.std.proofs.lemmas.Bool.{eqb-true, eq-eqb, true≢false}
+use Rattle.std.specs.Option.{ok_or}
 use Rattle.journal.specs.declared.row.Label.{Label}
 use Rattle.journal.specs.declared.fault.JournalFault.{JournalFault}
 use Rattle.journal.specs.declared.fault.JournalFault.TheVariants.{WrongWidth, BelowFloor, NoSlot, RowsFull, BytesFull}
@@ -11,7 +12,7 @@ use Rattle.journal.proofs.Refusals as refusals
 use Rattle.journal.proofs.Pages as slots
 use Rattle.format.specs.Mount.{found, bears, empty_at}
 use Rattle.format.specs.State.{View, page_in, pages_in, meaning_of, count_in, used_in, is_sound, stored, Takes}
-use Rattle.format.specs.Well.{Well, Stores}
+use Rattle.format.specs.Well.{Well, IsFull, Stores}
 use Rattle.format.proofs.Firsts.{found_some, found_none}
 use Rattle.format.proofs.Mounting.{above_zero, bears_true, free_count, sound_well, sound_again}
 use Rattle.format.proofs.Slots.{length_entries, length_values, section_new, section_old, well_stored}
@@ -28,10 +29,16 @@ ready v t start w k =
 pub takes_found : (v : View) (t start : ℕ) → Some t ≡ found (bears v.limits v.entries start) v.limits.slots → Takes v t start
 takes_found v t start e = let f = found_some (bears v.limits v.entries start) v.limits.slots t (sym e) in record { slot = f.0; own = inl f.1 }
 
-pub takes_vacant : (v : View) (t start : ℕ) → Well v → None ≡ found (bears v.limits v.entries start) v.limits.slots → Some t ≡ found (empty_at v.limits v.entries) v.limits.slots → Takes v t start
+takes_vacant : (v : View) (t start : ℕ) → Well v → None ≡ found (bears v.limits v.entries start) v.limits.slots → Some t ≡ found (empty_at v.limits v.entries) v.limits.slots → Takes v t start
 takes_vacant v t start w n e =
     let f = found_some (empty_at v.limits v.entries) v.limits.slots t (sym e) in
     record { slot = f.0; own = inr ((w.pages t f.0).free (eqb-true _ _ f.1), sym n) }
+
+-- A section that lies nowhere goes to a free slot, where there is one.
+pub vacant_or : (v : View) (start : ℕ) → Well v → (o : Option ℕ) (r : Result ℕ JournalFault) → None ≡ found (bears v.limits v.entries start) v.limits.slots
+    → o ≡ found (empty_at v.limits v.entries) v.limits.slots → r ≡ ok_or o (NoSlot start) → MatchResult r (λ t. Takes v t start) (λ f. (f ≡ NoSlot start) × IsFull v start)
+vacant_or v start w None r n e h = rw h (refl, record { absent = n; taken = e })
+vacant_or v start w (Some t) r n e h = rw h (takes_vacant v t start w n e)
 
 -- A refusal leaves the bytes.
 pub refuses : (v : View) (start : ℕ) (label : Label) (key value : List ℕ) (e : JournalFault) → is_sound v ≡ true → append_fault (meaning_of v) start key value ≡ Some e → Stores v v start label key value (Err e)
@@ -46,14 +53,14 @@ module _ (v : View) (start : ℕ) (label : Label) (key value : List ℕ) (s : is
   below_floor h = refuses v start label key value (BelowFloor start) s (refusals.fault_floor (meaning_of v) start key value lk h)
 
   module _ (fl : v.floor ≤ start) where
-    pub none_free : None ≡ found (bears v.limits v.entries start) v.limits.slots → None ≡ found (empty_at v.limits v.entries) v.limits.slots → Stores v v start label key value (Err (NoSlot start))
-    none_free n f =
+    pub none_free : IsFull v start → Stores v v start label key value (Err (NoSlot start))
+    none_free q =
         let w = sound_well v s in
         let some : (i : ℕ) → i < v.limits.slots → 0 < count_in v i =
-        λ i h. above_zero (count_in v i) (λ e. true≢false (sym (eq-eqb (count_in v i) 0 e) ∙ found_none (empty_at v.limits v.entries) v.limits.slots (sym f) i h)) in
+        λ i h. above_zero (count_in v i) (λ e. true≢false (sym (eq-eqb (count_in v i) 0 e) ∙ found_none (empty_at v.limits v.entries) v.limits.slots (sym q.taken) i h)) in
         refuses v start label key value (NoSlot start) s
         (refusals.fault_slot (meaning_of v) start key value lk fl
-        (slots.no_slot_left (pages_in v) v.limits.slots start (meaning_of v) refl refl (distinct v w) (λ i h. counted v i (some i h)) (absent v start (sym n))))
+        (slots.no_slot_left (pages_in v) v.limits.slots start (meaning_of v) refl refl (distinct v w) (λ i h. counted v i (some i h)) (absent v start (sym q.absent))))
 
     module _ (t : ℕ) (k : Takes v t start) where
       well : Well v

@@ -1,6 +1,7 @@
 -- More laws of chunk and put: parts of parts, writes inside a part, and writes with their check behind. Assumes nothing.
-use Rattle.std.proofs.Common.{◌≡◌, ℕ, ◌+◌, ◌-◌, ◌≤◌, List, [], ◌++◌, length, take, drop, sym, refl, ap, arith, length-append, rules}
+use Rattle.std.proofs.Common.{◌≡◌, ℕ, ◌+◌, ◌-◌, ◌≤◌, List, [], ◌++◌, length, take, drop, sym, refl, ap, arith, length-append, drop-drop, rules}
 use Rattle.std.proofs.lemmas.List.{places, same_lists, take_at, drop_at, append-nil}
+use borrow.Rule.Slice.PartMut.{put_mid}
 use Rattle.journal.specs.Bytes.{chunk, put}
 use Rattle.journal.specs.Meaning.{check_size}
 use Rattle.journal.proofs.Bytes.{chunk_put_same}
@@ -35,6 +36,15 @@ front_is xs n = refl
 pub put_front : (xs ys : List ℕ) (n : ℕ) → length ys ≡ n → put xs 0 ys ≡ ys ++ drop n xs
 unfolding put
 put_front xs ys n e = ap (λ k. ys ++ drop k xs) (omega (arith, e))
+
+-- A write to a slice's part, as code makes it, and a write of the whole.
+pub put_part : (xs ys zs : List ℕ) (a b e : ℕ) → b ≡ a → e ≡ a + length zs → ys ≡ zs → put_mid b (e - b) xs ys ≡ put xs a zs
+unfolding put
+put_part xs ys zs a b e ha he h = rw (ha, he, h, cut a (length zs)) (ap (λ rest. take a xs ++ (zs ++ rest)) (drop-drop (length zs) a xs))
+
+pub put_all : (xs ys : List ℕ) → length ys ≡ length xs → put xs 0 ys ≡ ys
+unfolding put
+put_all xs ys e = same_lists _ _ (search (rules, places)) (λ k d m. grind (arith, places))
 
 -- One write behind another is one write.
 put_join : (xs : List ℕ) (a : ℕ) (ys zs : List ℕ) → a + length ys + length zs ≤ length xs → put (put xs a ys) (a + length ys) zs ≡ put xs a (ys ++ zs)

@@ -1,6 +1,11 @@
 -- The first that answers, the first that passes, and how far all pass. Assumes nothing.
-use Rattle.std.proofs.Common.{◌≡◌, ℕ, zero, suc, ◌+◌, ◌<◌, ◌≤◌, Bool, true, false, cond, not, eqb, is_some, Some, None, Option, sym, refl, ap, ◌∙◌, ⊎_elim, eq-or-lt_of_le, add-one, arith}
+use Rattle.std.proofs.Common.{◌≡◌, ℕ, zero, suc, ◌+◌, ◌<◌, ◌≤◌, Bool, true, false, cond, not, ◌&&◌, ◌==◌, eqb, fold, List, [], ◌∷◌, ◌++◌, is_some, Some, None, Ok, Err, Option, MatchOption, IfSome, sym, refl, ap, ◌∙◌, ⊎_elim, eq-or-lt_of_le, add-one, arith}
 use Rattle.std.proofs.lemmas.Bool.{cond-true, cond-false, cond_both, eqb-true, eq-eqb, ne_eqb, true≢false}
+use Rattle.std.proofs.lemmas.List.Sums.{fold-append}
+use Rattle.std.specs.List.{range_with_len, list_all}
+use Rattle.journal.specs.declared.fault.JournalFault.{JournalFault}
+use Rattle.journal.specs.Making.{checked}
+use Rattle.format.specs.Decode.{zeros}
 use Rattle.format.specs.Mount.{or_else, is_none, earliest, found, passing}
 
 pub some_none : {X : Type 0} (x : X) → Some x ≡ None → ⊥
@@ -15,6 +20,28 @@ none_by None true h = refl
 none_by None false h = absurd (true≢false (sym h))
 none_by (Some x) true h = absurd (true≢false h)
 none_by (Some x) false h = refl
+
+-- What a check says of the fault found.
+pub checked_ok : (o : Option JournalFault) → Ok tt ≡ checked o → o ≡ None
+checked_ok None h = refl
+checked_ok (Some f) h = cc
+
+pub checked_err : (o : Option JournalFault) (f : JournalFault) → Err f ≡ checked o → o ≡ Some f
+checked_err None f h = cc
+checked_err (Some g) f h = cc
+
+-- Bytes that are all zero.
+pub zeros_are : (bs : List ℕ) → list_all (λ b. b == 0) bs ≡ zeros bs
+zeros_are [] = refl
+zeros_are (b ∷ bs) = cond_both (b == 0) (zeros bs) false (λ z. (b == 0 && list_all (λ x. x == 0) bs) ≡ z) (λ e. ap (λ t. t && list_all (λ x. x == 0) bs) e ∙ zeros_are bs) (λ e. ap (λ t. t && list_all (λ x. x == 0) bs) e)
+
+-- A fold over the numbers below n, one more of them at a time.
+range_more : (a n j : ℕ) → a + n ≡ j → range_with_len a (suc n) ≡ range_with_len a n ++ j ∷ []
+range_more a zero j e = ap (λ k. k ∷ []) (omega arith)
+range_more a (suc n) j e = ap (λ (ks : List ℕ). a ∷ ks) (range_more (a + 1) n j (omega arith))
+
+pub fold_range : {B : Type 0} (h : B → ℕ → B) (a : B) (n : ℕ) → fold h a (range_with_len 0 (suc n)) ≡ h (fold h a (range_with_len 0 n)) n
+fold_range h a n = ap (fold h a) (range_more 0 n n (omega arith)) ∙ fold-append h a (range_with_len 0 n) (n ∷ [])
 
 module _ {X : Type 0} (f : ℕ → Option X) where
   or_none : (a b : Option X) → or_else a b ≡ None → (a ≡ None) × (b ≡ None)
@@ -83,6 +110,15 @@ module _ (p : ℕ → Bool) where
 
   pub none_found : (n : ℕ) → ((i : ℕ) → i < n → p i ≡ false) → found p n ≡ None
   none_found n h = none_earliest F n (λ i l. cond-false (p i) (Some i) None (h i l))
+
+  -- What a search of the numbers below n says.
+  pub found_is : (n : ℕ) (r : Option ℕ) → MatchOption r ((k : ℕ) → 0 ≤ k → k < n → p k ≡ false) (λ i. (0 ≤ i) × (i < n) × (p i ≡ true) × ((k : ℕ) → 0 ≤ k → k < i → p k ≡ false)) → r ≡ found p n
+  found_is n None h = sym (none_found n (λ k l. h k (omega arith) l))
+  found_is n (Some i) h = sym (found_at i n h.1 (none_found i (λ k l. h.3 k (omega arith) l)) h.2)
+
+  pub found_within : (n : ℕ) (r : Option ℕ) → r ≡ found p n → IfSome r (λ i. i < n)
+  found_within n None e = tt
+  found_within n (Some i) e = (found_some n i (sym e)).0
 
   -- How far all pass: to the end exactly where each one does, and else to the first that does not.
   pub passing_le : (n : ℕ) → passing p n ≤ n

@@ -1,6 +1,6 @@
 -- The making, and mounting again what byte pages leave. Assumes nothing.
 use Rattle.std.proofs.Common.{◌≡◌, ℕ, ◌*◌, ◌^◌, ◌<◌, true, List, length, get_or, Some, None, Option, sym, refl, ap, ◌∙◌, subst, ⊎_elim, arith}
-use Rattle.std.proofs.lemmas.Bool.{cond-false, cases_Bool}
+use Rattle.std.proofs.lemmas.Bool.{cond-false}
 use Rattle.journal.specs.declared.limits.Limits.{Limits}
 use Rattle.journal.specs.declared.fault.JournalFault.{JournalFault}
 use Rattle.journal.specs.declared.fault.JournalFault.TheVariants.{WrongSizes}
@@ -15,14 +15,14 @@ use Rattle.format.specs.Well.{Laid}
 use Rattle.format.proofs.Numbers.{be_chunk_below}
 use Rattle.format.proofs.Bytes.{chunk_inside}
 use Rattle.format.proofs.Slots.{page_ends}
-use Rattle.format.proofs.Mounting.{Ranged, Naught, sound_ranged, sound_well, well_sound, naught_sound, accepted_is, is_accepted, well_sure, sure_well, laid_is, ranged_is}
+use Rattle.format.proofs.Mounting.{Ranged, Naught, sound_ranged, sound_well, well_sound, naught_sound, accepted_is, is_accepted, well_sure, sure_well, laid_is, wrong_lengths}
 
 -- Starts are read from bytes.
 start_below : (l : Limits) (es : List ℕ) → Laid l es → ((i : ℕ) → get_or es i 0 < 256) → (s : ℕ) → s < l.slots → start_of (page l es s) < 2 ^ 64
 unfolding start_of
 start_below l es z b s h =
     subst (λ (x : List ℕ). be x < 2 ^ 64) (chunk_inside es (s * page_size l.rows l.width) (page_size l.rows l.width) 0 8 (s * page_size l.rows l.width) (omega arith) (omega arith))
-    (be_chunk_below es (s * page_size l.rows l.width) (omega (arith, page_ends l es z s h)) b)
+    (be_chunk_below 8 (s * page_size l.rows l.width) es (omega (arith, page_ends l es z s h)) b)
 
 accepted_sound : (l : Limits) (es vs : List ℕ) → ((i : ℕ) → get_or es i 0 < 256) → mount_fault l es vs ≡ None → is_sound (offered l es vs) ≡ true
 accepted_sound l es vs b e =
@@ -48,9 +48,7 @@ made_meaning l es vs = by (mount_fault l es vs)
 
 unsized : (l : Limits) (es vs : List ℕ) → (Ranged l (length es) (length vs) → ⊥) → mount_fault l es vs ≡ Some WrongSizes
 unsized l es vs n =
-    ⊎_elim (λ e. absurd (n (ranged_is l (length es) (length vs) e)))
-    (λ e. cond-false (sized l (length es) (length vs)) (earliest (slot_fault l es) l.slots) (Some WrongSizes) e)
-    (cases_Bool (sized l (length es) (length vs)))
+    cond-false (sized l (length es) (length vs)) (earliest (slot_fault l es) l.slots) (Some WrongSizes) (wrong_lengths l (length es) (length vs) n)
 
 limits_path : (l : Limits) → Naught l → nothing ≡ l
 limits_path l n = sym (by l.slots l.rows l.bytes l.width n.slots n.rows n.bytes n.width)

@@ -1,5 +1,5 @@
 -- What byte pages mean, slot by slot: lawful, and found again by their starts. Assumes nothing.
-use Rattle.std.proofs.Common.{◌≡◌, ℕ, zero, suc, ◌+◌, ◌-◌, ◌<◌, ◌≤◌, true, eqb, List, [], ◌∷◌, ◌++◌, map, length, Some, None, Option, sym, refl, ap, ◌∙◌, subst, ap₂, ⊎_elim, add-one, arith}
+use Rattle.std.proofs.Common.{◌≡◌, ℕ, zero, suc, ◌+◌, ◌-◌, ◌<◌, ◌≤◌, true, eqb, List, [], ◌∷◌, ◌++◌, map, fold, length, Some, None, Option, sym, refl, ap, ◌∙◌, subst, ap₂, ⊎_elim, add-one, arith}
 use Rattle.std.proofs.lemmas.Bool.{cond_both, cases_order, true≢false}
 use Rattle.std.proofs.lemmas.List.FromFn.{length-map-range_with_len, get_or-map-range_with_len, map-range_with_len_more}
 use Rattle.std.proofs.ByRecursion.{All-from_get_or}
@@ -14,11 +14,11 @@ use Rattle.journal.proofs.Pages as slots
 use Rattle.journal.proofs.Search.{first_is}
 use Rattle.format.specs.Numbers.{be}
 use Rattle.format.specs.Layout.{key_at, row_size, row_place, value_check}
-use Rattle.format.specs.Decode.{count_of, row_at, key_of, offset_of, size_of, length_of, content_of, row_of, used, first_rows}
+use Rattle.format.specs.Decode.{page, start_of, count_of, row_at, key_of, offset_of, size_of, length_of, content_of, row_of, used, first_rows}
 use Rattle.format.specs.Mount.{found, bears}
 use Rattle.format.specs.State.{View, page_in, vals_in, pages_in, meaning_of, count_in, start_in, used_in, is_sound, first_from}
 use Rattle.format.specs.Well.{GoodPage, Well}
-use Rattle.format.proofs.Firsts.{found_some, found_none}
+use Rattle.format.proofs.Firsts.{fold_range, found_some, found_none}
 use Rattle.format.proofs.Mounting.{bears_true, true_bears, sound_well}
 use Rattle.format.proofs.Slots.{length_page, length_vals}
 
@@ -125,6 +125,12 @@ pub count_some : (v : View) → Well v → (start t : ℕ) → Some t ≡ found 
 count_some v w start t e = sym (ap length (rows_found v w start t (sym e)).0 ∙ rows_length v t)
 
 -- The first start, slot after slot.
+pub first_folded : (l : Limits) (es : List ℕ) (from n : ℕ) → fold (λ best s. nearest best (count_of (page l es s)) (start_of (page l es s)) from) None (range_with_len 0 n) ≡ first_from l es from n
+first_folded l es from zero = refl
+first_folded l es from (suc n) =
+    fold_range (λ best s. nearest best (count_of (page l es s)) (start_of (page l es s)) from) None n
+    ∙ ap (λ best. nearest best (count_of (page l es n)) (start_of (page l es n)) from) (first_folded l es from n)
+
 first_slots : (v : View) (from n : ℕ) → first_from v.limits v.entries from n ≡ first_of (pages_in v) from n
 first_slots v from zero = refl
 first_slots v from (suc n) = ap₂ (λ (o : Option ℕ) (c : ℕ). nearest o c (start_in v n) from) (first_slots v from n) (sym (rows_length v n))

@@ -1,11 +1,12 @@
 -- The mounting check against the facts that code rests on, both ways. Assumes nothing.
-use Rattle.std.proofs.Common.{◌≡◌, ℕ, zero, suc, ◌*◌, ◌^◌, ◌<◌, ◌≤◌, Bool, true, false, cond, eqb, ltb, ◌⊎◌, List, [], ◌∷◌, length, take, drop, Some, None, Option, sym, refl, ap, ◌∙◌, subst, inl, inr, ⊎_elim, eq-or-lt_of_le, arith}
+use Rattle.std.proofs.Common.{◌≡◌, ℕ, zero, suc, ◌*◌, ◌^◌, ◌<◌, ◌≤◌, Bool, true, false, cond, ◌&&◌, ◌==◌, eqb, ltb, ◌⊎◌, List, [], ◌∷◌, length, take, drop, Some, None, Option, sym, refl, ap, ◌∙◌, subst, inl, inr, ⊎_elim, eq-or-lt_of_le, arith}
 use Rattle.std.proofs.lemmas.Bool.{cond_both, cond-true, cond-false, cases_Bool, and_parts, and_from, or_cases, or_left, or_right, eqb-true, eq-eqb, ltb-true, ltb-false, lt-ltb, le-ltb, leb-true, le-leb, true≢false, cases_eq}
 use Rattle.journal.specs.declared.limits.Limits.{Limits}
 use Rattle.journal.specs.declared.fault.JournalFault.{JournalFault}
 use Rattle.journal.specs.declared.fault.JournalFault.TheVariants.{WrongSizes, BadHeader, BadRow}
 use Rattle.journal.specs.Bytes.{chunk}
 use Rattle.journal.specs.Meaning.{check_size}
+use Rattle.journal.specs.Making.{in_range}
 use Rattle.format.specs.Numbers.{be}
 use Rattle.format.specs.Layout.{count_at, head_check_at, head_size, page_size}
 use Rattle.format.specs.Decode.{page, start_of, count_of, zeros, is_free, row_at, used}
@@ -173,6 +174,18 @@ is_ranged l n m r =
     (and_from _ _ (and_from _ _ (le-leb _ _ r.bytes_some) (le-leb _ _ r.bytes_few))
     (and_from _ _ (le-leb _ _ r.width_some) (le-leb _ _ r.width_few)))))
     (and_from _ _ (eq-eqb _ _ r.entries) (eq-eqb _ _ r.values))
+
+-- The test of limits and lengths, part by part.
+pub out_of_range : (l : Limits) (n m : ℕ) → in_range l ≡ false → sized l n m ≡ false
+unfolding sized
+out_of_range l n m h = ap (λ b. b && (n == l.slots * page_size l.rows l.width && m == l.slots * l.bytes)) h
+
+pub right_lengths : (l : Limits) (n m : ℕ) → in_range l ≡ true → n ≡ l.slots * page_size l.rows l.width → m ≡ l.slots * l.bytes → sized l n m ≡ true
+unfolding sized
+right_lengths l n m h e f = and_from _ _ h (and_from _ _ (eq-eqb _ _ e) (eq-eqb _ _ f))
+
+pub wrong_lengths : (l : Limits) (n m : ℕ) → (Ranged l n m → ⊥) → sized l n m ≡ false
+wrong_lengths l n m h = ⊎_elim (λ e. absurd (h (ranged_is l n m e))) (λ e. e) (cases_Bool (sized l n m))
 
 pub small_is : (l : Limits) (n m : ℕ) → Ranged l n m → Small l
 small_is l n m r = record { slots = r.slots_few; rows = r.rows_few; bytes = r.bytes_few; width = r.width_few }

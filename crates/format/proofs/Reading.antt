@@ -16,7 +16,7 @@ use Rattle.format.specs.Layout.{row_size, row_place, value_check}
 use Rattle.format.specs.Decode.{row_at, label_of, key_of, offset_of, size_of, length_of, content_of, row_of}
 use Rattle.format.specs.Mount.{found, bears}
 use Rattle.format.specs.State.{View, page_in, vals_in, pages_in, meaning_of, count_in, here_if, located}
-use Rattle.format.specs.Well.{Well}
+use Rattle.format.specs.Well.{IsAt, Well}
 use Rattle.format.proofs.Bytes.{put_front}
 use Rattle.format.proofs.Firsts.{some_none}
 use Rattle.format.proofs.Slots.{length_page, length_vals}
@@ -78,6 +78,12 @@ row_found v w start p t h = by (found (bears v.limits v.entries start) v.limits.
         let l : p < count_in v t = subst (λ j. p < count_in v j) q.1 (ltb-true _ _ q.0) in
         let f : ℕ → Row = λ r. row_of v.limits.width (row_at v.limits.width (page_in v t) r) (vals_in v t) in
         (ap (λ rs. slice_get rs p) r.0 ∙ (slice_get-get_or (pages_in v t).rows p (f p) (omega (arith, rows_length v t)) ∙ ap Some (get_or-map-range_with_len f 0 (count_in v t) p p (f p) l (omega arith))), r.1, l)
+
+pub is_at : (v : View) → Well v → (start p t : ℕ) → Some t ≡ found (bears v.limits v.entries start) v.limits.slots → p < count_in v t → IsAt v start p t
+is_at v w start p t e h =
+    let l : Some t ≡ located v start p = sym (ap (here_if v p) (sym e) ∙ cond-true (ltb p (count_in v t)) (Some t) None (lt-ltb _ _ h)) in
+    let f = row_found v w start p t l in
+    record { found = l; slot = f.1; row = h }
 
 row_not_found : (v : View) → Well v → (start p : ℕ) → None ≡ located v start p → row_there (meaning_of v) start p ≡ None
 row_not_found v w start p h = by (found (bears v.limits v.entries start) v.limits.slots) refl (sym h)

@@ -3,8 +3,10 @@
 --   RowFits       what row_fits tells
 --   GoodPage l p  a page that a mounting accepts, as to its header's check and its rows
 --   Well v        byte pages between calls
+--   IsFull v s    the section s is kept in no slot, and no slot is free
+--   IsAt v s p t  the row at the position p of the section s lies in the slot t
 --   Stores        what an append makes of byte pages and answers
-use Rattle.std.specs.Prelude.{◌≡◌, ℕ, ◌+◌, ◌*◌, ◌^◌, ◌<◌, ◌≤◌, true, List, length, Result, ◌≢◌}
+use Rattle.std.specs.Prelude.{◌≡◌, ℕ, ◌+◌, ◌*◌, ◌^◌, ◌<◌, ◌≤◌, true, List, length, Some, None, Result, ◌≢◌}
 use Rattle.journal.specs.declared.limits.Limits.{Limits}
 use Rattle.journal.specs.declared.row.Label.{Label}
 use Rattle.journal.specs.declared.fault.JournalFault.{JournalFault}
@@ -14,7 +16,8 @@ use Rattle.journal.specs.Calls.{append_answer, appended}
 use Rattle.format.specs.Numbers.{be}
 use Rattle.format.specs.Layout.{head_check_at, row_check_at, page_size, entry_check}
 use Rattle.format.specs.Decode.{count_of, is_free, row_at, offset_of, size_of, used}
-use Rattle.format.specs.State.{View, page_in, count_in, start_in, meaning_of, is_sound, Leaves}
+use Rattle.format.specs.Mount.{found, bears, empty_at}
+use Rattle.format.specs.State.{View, page_in, count_in, start_in, meaning_of, is_sound, located, Leaves}
 
 pub record Small (l : Limits) : Type 0 where
   pub slots : l.slots ≤ 64
@@ -48,6 +51,15 @@ pub record Well (v : View) : Type 0 where
   pub distinct : (s t : ℕ) → s < t → t < v.limits.slots → 0 < count_in v s → 0 < count_in v t → start_in v s ≢ start_in v t
   pub above : (s : ℕ) → s < v.limits.slots → 0 < count_in v s → v.floor ≤ start_in v s
   pub starts : (s : ℕ) → s < v.limits.slots → 0 < count_in v s → start_in v s < 2 ^ 64
+
+pub record IsFull (v : View) (start : ℕ) : Type 0 where
+  pub absent : None ≡ found (bears v.limits v.entries start) v.limits.slots
+  pub taken : None ≡ found (empty_at v.limits v.entries) v.limits.slots
+
+pub record IsAt (v : View) (start position t : ℕ) : Type 0 where
+  pub found : Some t ≡ located v start position
+  pub slot : t < v.limits.slots
+  pub row : position < count_in v t
 
 pub record Stores (v v' : View) (start : ℕ) (label : Label) (key value : List ℕ) (r : Result ℕ JournalFault) : Type 0 where
   pub sound : is_sound v' ≡ true

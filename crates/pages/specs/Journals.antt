@@ -5,7 +5,7 @@
 use Rattle.std.specs.Prelude.{◌≡◌, true}
 use Rattle.journal.specs.Meaning.{Meaning}
 use Rattle.format.specs.State.{View, meaning_of, is_sound}
-use Rattle.pages.specs.declared.layout.slots.pages.Pages.{Pages}
+use Rattle.pages.specs.declared.pages.Pages.{Pages}
 use Rattle.pages.specs.Raws.{view}
 
 abbrev pub bytes_of : Pages → View

@@ -4,4 +4,4 @@ use Rattle.format.specs.State.{View}
 use Rattle.pages.specs.declared.raw.Raw.{Raw}
 
 abbrev pub view : Raw → View
-view r = record { limits = r.limits; floor = r.floor; entries = r.entries.now; values = r.values.now }
+view r = record { limits = r.layout.limits; floor = r.floor; entries = r.entries.now; values = r.values.now }

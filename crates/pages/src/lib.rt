@@ -1,10 +1,15 @@
 // Byte pages: a journal that lies in two lent slices of bytes, entries and values.
-// What asks something of its caller is private, and a module sees what its ancestors keep private:
-// so the calls lie below the slots, and these below the layout that they are written in.
 #![tactic(auto)]
 
+mod check;
+mod entries;
 mod layout;
+mod numbers;
+mod page;
+mod pages;
 mod raw;
+mod row;
 pub mod sizes;
+mod value;
 
-pub use layout::slots::pages::Pages;
+pub use pages::Pages;

@@ -1,6 +1,6 @@
 // How long the slices of byte pages are.
 
-#[derive(Clone, Copy)]
+#[derive(Clone, Copy, Debug, PartialEq, Eq)]
 pub struct Sizes {
     pub entries: usize,
     pub values: usize,

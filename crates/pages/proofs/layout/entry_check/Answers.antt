@@ -1,7 +1,0 @@
-use Rattle.std.proofs.Common.{rules}
-use Rattle.format.specs.Layout.{entry_check}
-use Rattle.pages.proofs.layout.entry_check.Goals as goal
-
-pub returns : goal.returns
-unfolding entry_check
-returns c = search rules

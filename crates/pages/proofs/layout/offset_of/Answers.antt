@@ -1,7 +1,0 @@
-use Rattle.std.proofs.Common.{rules}
-use Rattle.format.specs.Decode.{offset_of}
-use Rattle.pages.proofs.layout.offset_of.Goals as goal
-
-pub returns : goal.returns
-unfolding offset_of
-returns c = search rules

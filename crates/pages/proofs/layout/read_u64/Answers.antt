@@ -1,6 +1,0 @@
-use Rattle.std.proofs.Common.{rules}
-use Rattle.format.proofs.Numbers.{be_chunk_8}
-use Rattle.pages.proofs.layout.read_u64.Goals as goal
-
-pub returns : goal.returns
-returns c = search (rules, be_chunk_8)

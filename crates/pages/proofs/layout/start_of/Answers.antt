@@ -1,7 +1,0 @@
-use Rattle.std.proofs.Common.{rules}
-use Rattle.format.specs.Decode.{start_of}
-use Rattle.pages.proofs.layout.start_of.Goals as goal
-
-pub returns : goal.returns
-unfolding start_of
-returns c = search rules

@@ -1,8 +1,0 @@
-use Rattle.std.proofs.Common.{rules}
-use Rattle.std.proofs.lemmas.Slice.{overwrites}
-use Rattle.journal.specs.Bytes.{put}
-use Rattle.pages.proofs.layout.write_u64.Goals as goal
-
-pub returns : goal.returns
-unfolding put
-returns c = search (rules, overwrites)

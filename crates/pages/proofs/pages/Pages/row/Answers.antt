@@ -1,0 +1,19 @@
+use Rattle.std.proofs.Common.{◌≡◌, arith}
+use Rattle.format.specs.Decode.{row_at}
+use Rattle.format.specs.State.{page_in}
+use Rattle.format.proofs.Mounting.{sound_well}
+use Rattle.pages.specs.Raws.{view}
+use Rattle.pages.proofs.pages.Pages.row.Goals as goal
+
+pub row-requires : goal.row-requires
+row-requires c =
+    let v = view c.args.self.now.raw in
+    let l : c.page.result.layout.limits ≡ v.limits = cc in
+    rw l (omega (arith, c.requires.position, ((sound_well v c.args.self.now.sound).pages c.args.slot c.requires.slot).few))
+
+pub returns : goal.returns
+returns c =
+    let v = view c.args.self.now.raw in
+    let g = ((sound_well v c.args.self.now.sound).pages c.args.slot c.requires.slot).each c.args.position c.requires.position in
+    let e : c.row.result.bytes.now ≡ row_at v.limits.width (page_in v c.args.slot) c.args.position = cc in
+    record { row = e; limits = (cc); some = rw e g.some; room = rw e (omega (arith, g.place, g.room)) }
