@@ -1,7 +1,7 @@
 -- The tables of memory rows as plain data.
---   view r   the lists and numbers that the tables hold, by which all else is said
+--   tables_of m   the lists and numbers that the tables hold, by which all else is said
 use Rattle.memory_layout.specs.View.{View}
-use Rattle.memory.specs.declared.raw.Raw.{Raw}
+use Rattle.memory.specs.declared.tables.Memory.TheInside.{Inside}
 
-abbrev pub view : Raw → View
-view r = record { records = r.records.now; bytes = r.bytes.now; heads = r.heads; slots = r.slots; rows = r.rows; limit = r.limit; width = r.width; area = r.area; floor = r.floor }
+abbrev pub tables_of : Inside → View
+tables_of m = record { records = m.records.now; bytes = m.bytes.now; heads = m.heads; slots = m.slots; rows = m.rows; limit = m.limit; width = m.width; area = m.area; floor = m.floor }

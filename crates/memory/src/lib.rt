@@ -1,8 +1,7 @@
 // Memory rows: a journal whose rows lie as records and bytes in slices that it is lent.
 #![tactic(auto)]
 
-mod raw;
 mod tables;
 
 pub use memory_layout::record::RowRecord;
-pub use tables::memory::Memory;
+pub use tables::Memory;

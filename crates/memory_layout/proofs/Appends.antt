@@ -1,25 +1,29 @@
 -- An append, from the facts that the code finds. Assumes nothing.
-use Rattle.std.proofs.Common.{◌≡◌, ℕ, ◌+◌, ◌^◌, ◌<◌, ◌≤◌, false, leb, List, length, Some, None, Ok, Err, sym, refl, ap, ◌∙◌, subst, arith}
+use Rattle.std.proofs.Common.{◌≡◌, ℕ, ◌+◌, ◌^◌, ◌<◌, ◌≤◌, false, leb, List, length, Some, None, Ok, Err, Option, sym, refl, ap, ◌∙◌, subst, arith}
 use Rattle.std.proofs.lemmas.Bool.{cond_both, leb-true, leb-false}
 use Rattle.journal.specs.declared.row.Label.{Label}
 use Rattle.journal.specs.declared.fault.JournalFault.{JournalFault}
 use Rattle.journal.specs.declared.fault.JournalFault.TheVariants.{NoSlot}
 use Rattle.journal.specs.Meaning.{Section, cost, cost_of, rows_of}
 use Rattle.journal.specs.Calls.{append_fault, no_slot}
+use Rattle.journal.specs.Making.{checked}
 use Rattle.journal.specs.Slots.{Ready, kept_in}
 use Rattle.journal.proofs.Laws.{accepted}
 use Rattle.journal.proofs.Refusals as refusals
 use Rattle.journal.proofs.Pages as pages_have
-use Rattle.memory_layout.specs.View.{View, Well, Holds, Nowhere, Vacant, AllTaken, Stores, head, pages, limits_of, meaning_of, stored, room_fault}
+use Rattle.memory_layout.specs.View.{View, Well, Nowhere, AllTaken, Goes, Stores, head, pages, limits_of, meaning_of, stored, room_fault}
 use Rattle.memory_layout.proofs.Store.{grows}
 use Rattle.memory_layout.proofs.Keeps.{well_after}
 use Rattle.memory_layout.proofs.Seen.{rows_length, counted, absent, distinct, above}
 
-pub ready_found : (v : View) (t s : ℕ) → Well v → Holds v t s → Ready (pages v) v.slots t s
-ready_found v t s well h = pages_have.ready_found (pages v) v.slots t s (distinct v well) h.slot (counted v t h.taken) h.start
+-- What a check of a fault that may be none found.
+pub none_found : (o : Option JournalFault) → checked o ≡ Ok tt → o ≡ None
+none_found None h = refl
+none_found (Some f) h = cc
 
-pub ready_vacant : (v : View) (t s : ℕ) → Vacant v t → Nowhere v s → Ready (pages v) v.slots t s
-ready_vacant v t s h f = pages_have.ready_vacant (pages v) v.slots t s h.slot (rows_length v t ∙ h.free_of_rows) (absent v s f)
+pub fault_found : (o : Option JournalFault) (f : JournalFault) → checked o ≡ Err f → o ≡ Some f
+fault_found None f h = cc
+fault_found (Some g) f h = cc
 
 -- A refusal leaves the tables.
 pub refuses : (v : View) (s : ℕ) (label : Label) (key value : List ℕ) (e : JournalFault) → Well v → append_fault (meaning_of v) s key value ≡ Some e → Stores v v s label key value (Err e)
@@ -33,7 +37,16 @@ none_free v s label key value well lk fl f g =
     (refusals.fault_slot (meaning_of v) s key value lk fl
     (pages_have.no_slot_left (pages v) v.slots s (meaning_of v) refl refl (distinct v well) (λ i h. counted v i (f i h)) (absent v s g)))
 
-module _ (v : View) (t s : ℕ) (label : Label) (key value : List ℕ) (well : Well v) (ready : Ready (pages v) v.slots t s) (fl : v.floor ≤ s) (lk : length key ≡ v.width) where
+module _ (v : View) (t s : ℕ) (label : Label) (key value : List ℕ) (well : Well v) (goes : Goes v t s key) where
+  abbrev ready : Ready (pages v) v.slots t s
+  ready = goes.ready
+
+  abbrev fl : v.floor ≤ s
+  fl = goes.floor
+
+  abbrev lk : length key ≡ v.width
+  lk = goes.wide
+
   rows_are : rows_of (kept_in (pages v) v.slots) s ≡ (pages v t).rows
   rows_are = pages_have.ready_rows (pages v) v.slots t s ready
 

@@ -1,15 +1,16 @@
 -- A prune of the heads. Assumes nothing.
-use Rattle.std.proofs.Common.{◌≡◌, ℕ, ◌+◌, ◌*◌, ◌^◌, ◌<◌, ◌≤◌, max, Bool, true, false, cond, ◌||◌, ltb, List, map, length, get_or, set, sym, refl, ap, ◌∙◌, subst, ap₂, ⊎_elim, add-one, arith}
-use Rattle.std.specs.List.{range_with_len}
-use Rattle.std.proofs.lemmas.List.{get_or-set_same, get_or-set_other}
-use Rattle.std.proofs.lemmas.Bool.{cond_both, ltb-false, cases_lt}
+use Rattle.std.proofs.Common.{◌≡◌, ℕ, zero, suc, ◌+◌, ◌*◌, ◌^◌, ◌<◌, ◌≤◌, max, Bool, true, false, cond, ◌||◌, ltb, List, [], ◌∷◌, ◌++◌, map, length, get_or, take, drop, sym, refl, ap, ◌∙◌, subst, ap₂, add-one, arith, length-append, length-take, length-drop}
+use Rattle.std.specs.List.{range_with_len, list_any}
+use Rattle.std.proofs.lemmas.List.{length-map, take_more, get_or-map, get_or-take, get_or_append_left}
+use Rattle.std.proofs.lemmas.List.Folds.{list_any-append}
+use Rattle.std.proofs.lemmas.Bool.{cond_both, ltb-false}
 use Rattle.journal.specs.Meaning.{Section, Row, cost}
 use Rattle.journal.specs.Calls.{kept_from}
 use Rattle.journal.specs.Slots.{kept_in, vacancy, goes, gone_of}
 use Rattle.journal.proofs.Pages.{kept_pruned}
 use Rattle.journal.proofs.Search.{gone_is}
 use Rattle.memory_layout.specs.declared.head.Head.{Head}
-use Rattle.memory_layout.specs.View.{View, Well, Drops, head, kept_row, row_of, pages, limits_of, free, pruned_head, with_heads}
+use Rattle.memory_layout.specs.View.{View, Well, Drops, head, kept_row, row_of, rows_in, pages, limits_of, free, pruned_head, with_heads}
 use Rattle.memory_layout.proofs.Seen.{rows_length}
 
 -- The tables after.
@@ -66,22 +67,31 @@ module _ (v : View) (well : Well v) (min : ℕ) (hs : List Head) (len : length h
         after = ap (λ (xs : List Section). record { limits = limits_of v; floor = max v.floor min; sections = xs }) sections;
       })
 
--- One slot more of the loop.
-pub heads_step : (min : ℕ) (old hs : List Head) (s : ℕ) (new : Head) → s < length hs
-    → ((i : ℕ) → i < s → get_or hs i free ≡ pruned_head min (get_or old i free)) → ((i : ℕ) → s ≤ i → get_or hs i free ≡ get_or old i free)
-    → new ≡ pruned_head min (get_or hs s free)
-    → ((i : ℕ) → i < s + 1 → get_or (set hs s new) i free ≡ pruned_head min (get_or old i free)) × ((i : ℕ) → s + 1 ≤ i → get_or (set hs s new) i free ≡ get_or old i free)
-heads_step min old hs s new h before rest is = (
-  λ i l. ⊎_elim
-      (λ q. let ne : i ≡ s → ⊥ = λ e. omega arith in get_or-set_other hs s i new free ne ∙ before i q)
-      (λ q. let e : s ≡ i = omega arith in
-      subst (λ j. get_or (set hs s new) j free ≡ pruned_head min (get_or old j free)) e
-      (get_or-set_same hs s new free h ∙ is ∙ ap (pruned_head min) (rest s (omega arith))))
-      (cases_lt i s),
-  λ i l. let ne : i ≡ s → ⊥ = λ e. omega arith in get_or-set_other hs s i new free ne ∙ rest i (omega arith),
-)
+-- Whether a section goes, from one head after another.
+pub gone_upto : (v : View) (min n : ℕ) → n ≤ length v.heads → list_any (λ (h : Head). goes min h.count h.start) (take n v.heads) ≡ gone_of (pages v) min n
+gone_upto v min zero l = refl
+gone_upto v min (suc n) l =
+    let test : Head → Bool = λ h. goes min h.count h.start in
+    let here : (goes min (head v n).count (head v n).start || false) ≡ goes min (length (rows_in v n)) (head v n).start =
+    or_nothing _ ∙ ap (λ (k : ℕ). goes min k (head v n).start) (sym (rows_length v n)) in
+    ap (λ (k : ℕ). list_any test (take k v.heads)) (sym (add-one n))
+    ∙ ap (list_any test) (take_more v.heads n free (omega arith))
+    ∙ list_any-append test (take n v.heads) (head v n ∷ [])
+    ∙ ap₂ (λ (x : Bool) (y : Bool). x || y) (gone_upto v min n (omega arith)) here
+  where
+    or_nothing : (b : Bool) → (b || false) ≡ b
+    or_nothing true = refl
+    or_nothing false = refl
 
-pub gone_step : (v : View) (min s : ℕ) (gone b r : Bool) (h : Head) → h ≡ head v s → gone ≡ gone_of (pages v) min s → b ≡ goes min h.count h.start → r ≡ (gone || b) → r ≡ gone_of (pages v) min (s + 1)
-gone_step v min s gone b r h e g q a =
-    a ∙ ap₂ (λ (x : Bool) (y : Bool). x || y) g (q ∙ ap (λ (x : Head). goes min x.count x.start) e ∙ ap (λ (n : ℕ). goes min n (head v s).start) (sym (rows_length v s)))
-    ∙ ap (gone_of (pages v) min) (sym (add-one s))
+-- The first heads pruned, and the others as they were.
+pub pruned_front : (v : View) → Well v → (min : ℕ) (gone : Bool) → gone ≡ list_any (λ (h : Head). goes min h.count h.start) (take v.slots v.heads)
+    → Drops v (with_heads v (map (pruned_head min) (take v.slots v.heads) ++ drop v.slots v.heads) (max v.floor min)) min gone
+pruned_front v well min gone g =
+    drops v well min _
+    (omega (arith, well.heads_len, well.slots_few, length-append (map (pruned_head min) (take v.slots v.heads)) (drop v.slots v.heads), length-map (take v.slots v.heads) (pruned_head min), length-take v.slots v.heads, length-drop v.slots v.heads))
+    (λ i l.
+    let inside : i < length (take v.slots v.heads) = omega (arith, well.heads_len, well.slots_few, length-take v.slots v.heads) in
+    get_or_append_left (map (pruned_head min) (take v.slots v.heads)) (drop v.slots v.heads) free i (omega (arith, length-map (take v.slots v.heads) (pruned_head min)))
+    ∙ get_or-map (pruned_head min) (take v.slots v.heads) i free free inside ∙ ap (pruned_head min) (get_or-take v.slots v.heads i free l))
+    _ _ refl
+    (g ∙ gone_upto v min v.slots (omega (arith, well.heads_len, well.slots_few)))

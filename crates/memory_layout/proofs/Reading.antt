@@ -1,11 +1,11 @@
 -- What a read answers, from the record that the code finds. Assumes nothing.
-use Rattle.std.proofs.Common.{◌≡◌, ℕ, ◌+◌, ◌<◌, ◌≤◌, List, ◌++◌, length, drop, Ok, Err, Option, sym, ap, ◌∙◌, arith}
+use Rattle.std.proofs.Common.{◌≡◌, ℕ, ◌+◌, ◌<◌, ◌≤◌, List, length, Ok, Err, Option, sym, ap, ◌∙◌, arith}
 use Rattle.std.proofs.lemmas.Bool.{cond-true, cond-false, lt-ltb, le-ltb}
 use Rattle.journal.specs.Bytes.{chunk}
 use Rattle.journal.proofs.Bytes.{length_chunk}
 use Rattle.journal.specs.declared.fault.JournalFault.TheVariants.{Short}
 use Rattle.journal.specs.Meaning.{Row}
-use Rattle.journal.specs.Calls.{entry_answer, entry_fill, entry_read, entry_buffer, value_answer, value_fill, value_read, value_buffer}
+use Rattle.journal.specs.Calls.{entry_answer, entry_read, value_answer, value_fill, value_read, value_buffer}
 use Rattle.memory_layout.specs.declared.record.RowRecord.{RowRecord}
 use Rattle.memory_layout.specs.View.{View, Lies, meaning_of}
 
@@ -18,9 +18,6 @@ module _ (v : View) (s p : ℕ) (r : RowRecord) (lies : Lies v s p r) where
       sym (ap (λ (o : Option Row). entry_answer o v.width s p room) lies.row ∙ cond-false _ _ _ (le-ltb _ _ h)
       ∙ ap (λ (n : ℕ). Ok (record { label = r.label; length = n })) long)
 
-  pub entry_put : (before after : List ℕ) → v.width ≤ length before → after ≡ chunk v.bytes r.at v.width ++ drop v.width before → after ≡ entry_buffer (meaning_of v) s p before
-  entry_put before after h e = e ∙ sym (ap (λ (o : Option Row). entry_fill o v.width before) lies.row ∙ cond-false _ _ _ (le-ltb _ _ h))
-
   pub value_short : (room : ℕ) → room < r.length → Err (Short s p r.length) ≡ value_read (meaning_of v) s p room
   value_short room h =
       let l : room < length (chunk v.bytes (r.at + v.width) r.length) = omega (arith, long) in
@@ -31,15 +28,3 @@ module _ (v : View) (s p : ℕ) (r : RowRecord) (lies : Lies v s p r) where
   value_kept before h =
       let l : length before < length (chunk v.bytes (r.at + v.width) r.length) = omega (arith, long) in
       sym (ap (λ (o : Option Row). value_fill o before) lies.row ∙ cond-true _ _ _ (lt-ltb _ _ l))
-
-  pub value_ok : (room : ℕ) → r.length ≤ room → Ok r.length ≡ value_read (meaning_of v) s p room
-  value_ok room h =
-      let l : length (chunk v.bytes (r.at + v.width) r.length) ≤ room = omega (arith, long) in
-      sym (ap (λ (o : Option Row). value_answer o s p room) lies.row ∙ cond-false _ _ _ (le-ltb _ _ l)
-      ∙ ap (λ (n : ℕ). Ok n) long)
-
-  pub value_put : (before after : List ℕ) → r.length ≤ length before → after ≡ chunk v.bytes (r.at + v.width) r.length ++ drop r.length before → after ≡ value_buffer (meaning_of v) s p before
-  value_put before after h e =
-      let l : length (chunk v.bytes (r.at + v.width) r.length) ≤ length before = omega (arith, long) in
-      e ∙ ap (λ (n : ℕ). chunk v.bytes (r.at + v.width) r.length ++ drop n before) (sym long)
-      ∙ sym (ap (λ (o : Option Row). value_fill o before) lies.row ∙ cond-false _ _ _ (le-ltb _ _ l))

@@ -9,6 +9,7 @@
 --   Nowhere v s            it lies in none
 --   Vacant v t, AllTaken v the slot t is free; no slot is
 --   Lies v s p r           r is the record of the row at position p of the section s
+--   Goes v t s key         a row with that key, of the section s, goes to the slot t
 --   stored v t ..          the tables with one row more in the slot t
 --   room_fault h n ..      why a slot with the head h takes no value of length n more, or None
 --   Stores, Drops          what an append, and a prune, makes of the tables and answers
@@ -21,7 +22,7 @@ use Rattle.journal.specs.declared.fault.JournalFault.TheVariants.{RowsFull, Byte
 use Rattle.journal.specs.Bytes.{chunk, put}
 use Rattle.journal.specs.Meaning.{Meaning, Row, sound, cost, cost_of, row_at}
 use Rattle.journal.specs.Calls.{append_answer, appended, any_below, pruned}
-use Rattle.journal.specs.Slots.{Pages, kept_in}
+use Rattle.journal.specs.Slots.{Pages, Ready, kept_in}
 use Rattle.memory_layout.specs.declared.record.RowRecord.{RowRecord}
 use Rattle.memory_layout.specs.declared.head.Head.{Head}
 
@@ -146,6 +147,12 @@ stored v t start label key value =
       area = v.area;
       floor = v.floor;
     }
+
+-- A row with that key, of the section s, goes to the slot t.
+pub record Goes (v : View) (t s : ℕ) (key : List ℕ) : Type 0 where
+  pub ready : Ready (pages v) v.slots t s
+  pub floor : v.floor ≤ s
+  pub wide : length key ≡ v.width
 
 -- Why a slot takes no further row: it has them all, or the value would pass what its rows may cost.
 abbrev pub room_fault : Head → ℕ → ℕ → ℕ → ℕ → Option JournalFault
