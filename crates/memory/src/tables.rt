@@ -14,7 +14,7 @@ mod calls;
 use journal::fault::JournalFault;
 use journal::limits::Limits;
 use journal::row::{CHECK_SIZE, Entry, Label};
-use journal::slots::below;
+use journal::slots::{below, has_room};
 use memory_layout::head::Head;
 use memory_layout::record::RowRecord;
 use std::marker::Model;
@@ -194,7 +194,7 @@ fn left(head: Head, min: u64) -> Head
     if head.start < min { Head::FREE } else { head }
 }
 
-// Bytes laid over others from the place `at` on.
+// Bytes laid over others from the place `at` on. Byte pages have the same: it asks for room, which no public function does.
 fn write(to: &mut [u8], at: usize, from: &[u8])
     requires { at + length from.now ≤ length to.old }
     ensures { to.new ≡ put to.old at from.now }
@@ -218,24 +218,13 @@ fn check_room(
     limit: usize,
     start: u64,
 ) -> Result<(), JournalFault>
-    requires { head.cost ≤ limit }
     ensures { result ≡ checked (room_fault head length rows limit start) }
 {
     if head.count >= rows {
         return Err(JournalFault::RowsFull { section: start });
     }
-    if !has_room(head.cost, length, limit) {
+    if !has_room(head.cost as u64, length as u64, limit as u64) {
         return Err(JournalFault::BytesFull { section: start });
     }
     Ok(())
-}
-
-// Whether a value of that length still fits. Takes away, since a sum could pass what a usize holds.
-fn has_room(cost: usize, length: usize, limit: usize) -> bool
-    requires { cost ≤ limit }
-    ensures { result ≡ nat_le (cost + cost_of length) limit }
-{
-    let room = limit - cost;
-    let check = CHECK_SIZE as usize;
-    check <= room && length <= room - check
 }

@@ -1,7 +1,7 @@
 // Where rows lie, and where they go.
 
-ghost use Rattle.std.specs.Prelude.{◌≡◌, ◌+◌, ◌<◌, ◌≤◌, length, nat_le, IfSome, MatchResult};
-ghost use Rattle.journal.specs.Meaning.{check_size, cost_of};
+ghost use Rattle.std.specs.Prelude.{◌≡◌, ◌+◌, ◌<◌, ◌≤◌, length, IfSome, MatchResult};
+ghost use Rattle.journal.specs.Meaning.{check_size};
 ghost use Rattle.format.specs.Decode as decode;
 ghost use Rattle.format.specs.Mount as mount;
 ghost use Rattle.format.specs.State.{Takes, located, count_in, used_in, page_in};
@@ -11,16 +11,8 @@ ghost use Rattle.pages.specs.Raws.{view};
 use super::Pages;
 use crate::row::Row;
 use journal::fault::JournalFault;
-use journal::row::{CHECK_SIZE, Label};
-
-// Whether a value of that length still fits. Takes away, since a sum could pass what a usize holds.
-fn has_room(used: u64, length: usize, bytes: u64) -> bool
-    requires { used ≤ bytes }
-    ensures { result ≡ nat_le (used + cost_of length) bytes }
-{
-    let left = bytes - used;
-    left >= CHECK_SIZE && length as u64 <= left - CHECK_SIZE
-}
+use journal::row::Label;
+use journal::slots::has_room;
 
 impl<'a> Pages<'a> {
     /// The slot that a section lies in.
@@ -108,7 +100,7 @@ impl<'a> Pages<'a> {
             return Err(JournalFault::RowsFull { section: start });
         }
         let used = self.used_at(slot);
-        if !has_room(used, value.len(), limits.bytes) {
+        if !has_room(used, value.len() as u64, limits.bytes) {
             return Err(JournalFault::BytesFull { section: start });
         }
         self.raw.store(slot, count, used, start, label, key, value);
