@@ -1,15 +1,13 @@
 -- The first that answers, the first that passes, and how far all pass. Assumes nothing.
 use Rattle.std.proofs.Common.{◌≡◌, ℕ, zero, suc, ◌+◌, ◌<◌, ◌≤◌, Bool, true, false, cond, not, ◌&&◌, ◌==◌, eqb, fold, List, [], ◌∷◌, ◌++◌, is_some, Some, None, Ok, Err, Option, MatchOption, IfSome, sym, refl, ap, ◌∙◌, ⊎_elim, eq-or-lt_of_le, add-one, arith}
 use Rattle.std.proofs.lemmas.Bool.{cond-true, cond-false, cond_both, eqb-true, eq-eqb, ne_eqb, true≢false}
+use Rattle.std.proofs.lemmas.Option.{cond_some, none-some, same_Some}
 use Rattle.std.proofs.lemmas.List.Sums.{fold-append}
 use Rattle.std.specs.List.{range_with_len, list_all}
 use Rattle.journal.specs.declared.fault.JournalFault.{JournalFault}
 use Rattle.journal.specs.Making.{checked}
 use Rattle.format.specs.Decode.{zeros}
 use Rattle.format.specs.Mount.{or_else, is_none, earliest, found, passing}
-
-pub some_none : {X : Type 0} (x : X) → Some x ≡ None → ⊥
-some_none x e = let z : ◌≡◌ {A = ℕ} 0 1 = cc in omega arith
 
 pub is_none_true : {X : Type 0} (o : Option X) → is_none o ≡ true → o ≡ None
 is_none_true None h = refl
@@ -20,6 +18,10 @@ none_by None true h = refl
 none_by None false h = absurd (true≢false (sym h))
 none_by (Some x) true h = absurd (true≢false h)
 none_by (Some x) false h = refl
+
+pub if_none : (b : Bool) (s : ℕ) → cond b (Some s) None ≡ None → b ≡ false
+if_none true s h = absurd (none-some s (sym h))
+if_none false s h = refl
 
 -- What a check says of the fault found.
 pub checked_ok : (o : Option JournalFault) → Ok tt ≡ checked o → o ≡ None
@@ -46,7 +48,7 @@ fold_range h a n = ap (fold h a) (range_more 0 n n (omega arith)) ∙ fold-appen
 module _ {X : Type 0} (f : ℕ → Option X) where
   or_none : (a b : Option X) → or_else a b ≡ None → (a ≡ None) × (b ≡ None)
   or_none None b h = (refl, h)
-  or_none (Some x) b h = absurd (some_none x h)
+  or_none (Some x) b h = cc
 
   pub earliest_more : (i : ℕ) → earliest f i ≡ None → earliest f (i + 1) ≡ f i
   earliest_more i h = ap (earliest f) (add-one i) ∙ ap (λ o. or_else o (f i)) h
@@ -68,17 +70,14 @@ module _ {X : Type 0} (f : ℕ → Option X) where
   none_earliest zero h = refl
   none_earliest (suc n) h = ap (λ o. or_else o (f n)) (none_earliest n (λ i l. h i (omega arith))) ∙ h n (omega arith)
 
-  some_same : (a b : X) → Some a ≡ Some b → a ≡ b
-  some_same a b w = cc
-
   by_some : (n : ℕ) (x : X) (o : Option X) → earliest f n ≡ o → or_else (earliest f n) (f n) ≡ Some x → (earliest f n ≡ Some x → (i : ℕ) × (i < n) × (f i ≡ Some x)) → (i : ℕ) × (i < suc n) × (f i ≡ Some x)
   by_some n x None e h again = (n, omega arith, sym (ap (λ y. or_else y (f n)) e) ∙ h)
   by_some n x (Some y) e h again =
-      let q : y ≡ x = some_same y x (sym (ap (λ z. or_else z (f n)) e) ∙ h) in
+      let q : y ≡ x = same_Some y x (sym (ap (λ z. or_else z (f n)) e) ∙ h) in
       let r = again (e ∙ ap Some q) in (r.0, omega (arith, r.1), r.2)
 
   pub earliest_some : (n : ℕ) (x : X) → earliest f n ≡ Some x → (i : ℕ) × (i < n) × (f i ≡ Some x)
-  earliest_some zero x h = absurd (some_none x (sym h))
+  earliest_some zero x h = absurd (none-some x h)
   earliest_some (suc n) x h = by_some n x (earliest f n) refl h (λ e. earliest_some n x e)
 
 module _ (p : ℕ → Bool) where
@@ -91,18 +90,10 @@ module _ (p : ℕ → Bool) where
   pub found_at : (i n : ℕ) → i < n → found p i ≡ None → p i ≡ true → found p n ≡ Some i
   found_at i n l h e = earliest_at F i n i l h (cond-true (p i) (Some i) None e)
 
-  if_some : (b : Bool) (s t : ℕ) → cond b (Some s) None ≡ Some t → (b ≡ true) × (s ≡ t)
-  if_some true s t h = (refl, cc)
-  if_some false s t h = absurd (some_none t (sym h))
-
-  if_none : (b : Bool) (s : ℕ) → cond b (Some s) None ≡ None → b ≡ false
-  if_none true s h = absurd (some_none s h)
-  if_none false s h = refl
-
   pub found_some : (n t : ℕ) → found p n ≡ Some t → (t < n) × (p t ≡ true)
   found_some n t h =
       let r = earliest_some F n t h in
-      let q = if_some (p r.0) r.0 t r.2 in
+      let q = cond_some (p r.0) r.0 t r.2 in
       (omega (arith, r.1, q.1), sym (ap p q.1) ∙ q.0)
 
   pub found_none : (n : ℕ) → found p n ≡ None → (i : ℕ) → i < n → p i ≡ false

@@ -1,6 +1,5 @@
 -- The making, and mounting again what byte pages leave. Assumes nothing.
 use Rattle.std.proofs.Common.{◌≡◌, ℕ, ◌*◌, ◌^◌, ◌<◌, true, List, length, get_or, Some, None, Option, sym, refl, ap, ◌∙◌, subst, ⊎_elim, arith}
-use Rattle.std.proofs.lemmas.Bool.{cond-false}
 use Rattle.journal.specs.declared.limits.Limits.{Limits}
 use Rattle.journal.specs.declared.fault.JournalFault.{JournalFault}
 use Rattle.journal.specs.declared.fault.JournalFault.TheVariants.{WrongSizes}
@@ -9,13 +8,13 @@ use Rattle.journal.specs.Making.{nothing, made}
 use Rattle.format.specs.Numbers.{be}
 use Rattle.format.specs.Layout.{page_size}
 use Rattle.format.specs.Decode.{page, start_of}
-use Rattle.format.specs.Mount.{earliest, slot_fault, sized, mount_fault}
-use Rattle.format.specs.State.{View, meaning_of, offered, decoded, mounted, Lasts, is_sound}
+use Rattle.format.specs.Mount.{mount_fault}
+use Rattle.format.specs.State.{View, meaning_of, offered, decoded, granted, mounted, Lasts, is_sound}
 use Rattle.format.specs.Well.{Laid}
 use Rattle.format.proofs.Numbers.{be_chunk_below}
 use Rattle.format.proofs.Bytes.{chunk_inside}
 use Rattle.format.proofs.Slots.{page_ends}
-use Rattle.format.proofs.Mounting.{Ranged, Naught, sound_ranged, sound_well, well_sound, naught_sound, accepted_is, is_accepted, well_sure, sure_well, laid_is, wrong_lengths}
+use Rattle.format.proofs.Mounting.{Ranged, Naught, sound_ranged, sound_well, well_sound, naught_sound, accepted_is, is_accepted, well_sure, sure_well, laid_is, fault_of_sizes, wrong_lengths}
 
 -- Starts are read from bytes.
 start_below : (l : Limits) (es : List ℕ) → Laid l es → ((i : ℕ) → get_or es i 0 < 256) → (s : ℕ) → s < l.slots → start_of (page l es s) < 2 ^ 64
@@ -30,13 +29,21 @@ accepted_sound l es vs b e =
     let z = laid_is l es (length vs) a.0 in
     well_sound (offered l es vs) (sure_well (offered l es vs) z (omega (arith, a.0.values)) a.1 (λ s h c. (omega arith, start_below l es z b s h))) a.0
 
-pub made_sound : (l : Limits) (es vs : List ℕ) → ((i : ℕ) → get_or es i 0 < 256) → is_sound (mounted l es vs) ≡ true
+made_sound : (l : Limits) (es vs : List ℕ) → ((i : ℕ) → get_or es i 0 < 256) → is_sound (mounted l es vs) ≡ true
 unfolding mounted
 made_sound l es vs b = by (mount_fault l es vs) refl
   where
     by : (o : Option JournalFault) → mount_fault l es vs ≡ o → is_sound (offered (or_keep o l nothing) es vs) ≡ true
     by None e = accepted_sound l es vs b e
     by (Some f) e = naught_sound (offered nothing es vs) (record { slots = refl; rows = refl; bytes = refl; width = refl })
+
+-- The same of what stands under limits g, where these are the limits granted.
+pub granted_is : (l g : Limits) (es vs : List ℕ) → g ≡ granted l es vs → offered g es vs ≡ mounted l es vs
+unfolding mounted
+granted_is l g es vs e = ap (λ (x : Limits). offered x es vs) e
+
+pub granted_sound : (l g : Limits) (es vs : List ℕ) → g ≡ granted l es vs → ((i : ℕ) → get_or es i 0 < 256) → is_sound (offered g es vs) ≡ true
+granted_sound l g es vs e b = subst (λ (v : View). is_sound v ≡ true) (sym (granted_is l g es vs e)) (made_sound l es vs b)
 
 pub made_meaning : (l : Limits) (es vs : List ℕ) → meaning_of (mounted l es vs) ≡ made (mount_fault l es vs) (decoded l es vs)
 unfolding mounted
@@ -48,7 +55,7 @@ made_meaning l es vs = by (mount_fault l es vs)
 
 unsized : (l : Limits) (es vs : List ℕ) → (Ranged l (length es) (length vs) → ⊥) → mount_fault l es vs ≡ Some WrongSizes
 unsized l es vs n =
-    cond-false (sized l (length es) (length vs)) (earliest (slot_fault l es) l.slots) (Some WrongSizes) (wrong_lengths l (length es) (length vs) n)
+    fault_of_sizes l es vs (wrong_lengths l (length es) (length vs) n)
 
 limits_path : (l : Limits) → Naught l → nothing ≡ l
 limits_path l n = sym (by l.slots l.rows l.bytes l.width n.slots n.rows n.bytes n.width)

@@ -1,6 +1,7 @@
 -- The mounting check against the facts that code rests on, both ways. Assumes nothing.
 use Rattle.std.proofs.Common.{◌≡◌, ℕ, zero, suc, ◌*◌, ◌^◌, ◌<◌, ◌≤◌, Bool, true, false, cond, ◌&&◌, ◌==◌, eqb, ltb, ◌⊎◌, List, [], ◌∷◌, length, take, drop, Some, None, Option, sym, refl, ap, ◌∙◌, subst, inl, inr, ⊎_elim, eq-or-lt_of_le, arith}
 use Rattle.std.proofs.lemmas.Bool.{cond_both, cond-true, cond-false, cases_Bool, and_parts, and_from, or_cases, or_left, or_right, eqb-true, eq-eqb, ltb-true, ltb-false, lt-ltb, le-ltb, leb-true, le-leb, true≢false, cases_eq}
+use Rattle.std.proofs.lemmas.Option.{none-some}
 use Rattle.journal.specs.declared.limits.Limits.{Limits}
 use Rattle.journal.specs.declared.fault.JournalFault.{JournalFault}
 use Rattle.journal.specs.declared.fault.JournalFault.TheVariants.{WrongSizes, BadHeader, BadRow}
@@ -14,7 +15,7 @@ use Rattle.format.specs.Mount.{is_none, found, earliest, bears, head_right, head
 use Rattle.format.specs.State.{View, count_in, start_in, starts_good, no_limits, is_sound}
 use Rattle.format.specs.Well.{Small, Laid, Checked, RowFits, GoodPage, Well}
 use Rattle.format.proofs.Bytes.{chunk_inside}
-use Rattle.format.proofs.Firsts.{some_none, is_none_true, earliest_none, none_earliest, found_none, none_found, passing_le, all_pass, each_passes}
+use Rattle.format.proofs.Firsts.{is_none_true, earliest_none, none_earliest, found_none, none_found, passing_le, all_pass, each_passes}
 
 pub above_zero : (n : ℕ) → (n ≡ 0 → ⊥) → 0 < n
 above_zero zero h = absurd (h refl)
@@ -39,7 +40,7 @@ is_fits w bytes o b g = and_from _ _ (eq-eqb _ _ g.check) (and_from _ _ (eq-eqb 
 
 if_none : (b : Bool) (o : Option JournalFault) (f : JournalFault) → cond b o (Some f) ≡ None → (b ≡ true) × (o ≡ None)
 if_none true o f h = (refl, h)
-if_none false o f h = absurd (some_none f h)
+if_none false o f h = absurd (none-some f (sym h))
 
 -- A header of zeros has the row count 0.
 both : (b c : Bool) → cond b c false ≡ true → (b ≡ true) × (c ≡ true)
@@ -94,7 +95,7 @@ pub record Sure (l : Limits) (es : List ℕ) (s : ℕ) : Type 0 where
 
 no_fault : (s good count : ℕ) → good ≤ count → rows_fault s good count ≡ None → good ≡ count
 no_fault s good count h e =
-    ⊎_elim (λ t. absurd (some_none (BadRow s good) (sym (cond-true (ltb good count) (Some (BadRow s good)) None t) ∙ e)))
+    ⊎_elim (λ t. absurd (none-some (BadRow s good) (sym e ∙ cond-true (ltb good count) (Some (BadRow s good)) None t)))
     (λ t. let k = ltb-false good count t in omega arith) (cases_Bool (ltb good count))
 
 module _ (l : Limits) (es : List ℕ) (s : ℕ) where
@@ -186,6 +187,9 @@ right_lengths l n m h e f = and_from _ _ h (and_from _ _ (eq-eqb _ _ e) (eq-eqb 
 
 pub wrong_lengths : (l : Limits) (n m : ℕ) → (Ranged l n m → ⊥) → sized l n m ≡ false
 wrong_lengths l n m h = ⊎_elim (λ e. absurd (h (ranged_is l n m e))) (λ e. e) (cases_Bool (sized l n m))
+
+pub fault_of_sizes : (l : Limits) (es vs : List ℕ) → sized l (length es) (length vs) ≡ false → mount_fault l es vs ≡ Some WrongSizes
+fault_of_sizes l es vs h = cond-false (sized l (length es) (length vs)) (earliest (slot_fault l es) l.slots) (Some WrongSizes) h
 
 pub small_is : (l : Limits) (n m : ℕ) → Ranged l n m → Small l
 small_is l n m r = record { slots = r.slots_few; rows = r.rows_few; bytes = r.bytes_few; width = r.width_few }

@@ -1,6 +1,6 @@
 -- A prune, slot after slot, and what it makes of the meaning. Assumes nothing.
-use Rattle.std.proofs.Common.{◌≡◌, ℕ, zero, suc, ◌+◌, ◌*◌, ◌<◌, ◌≤◌, max, Bool, true, false, cond, ◌&&◌, ◌||◌, ltb, List, length, sym, refl, ap, ◌∙◌, subst, ap₂, ⊎_elim, eq-or-lt_of_le, add-one, arith}
-use Rattle.std.proofs.lemmas.Bool.{cond-true, cond-false, cond_both, cases_Bool, and_from, ltb-false, lt-ltb, true≢false, cases_eq}
+use Rattle.std.proofs.Common.{◌≡◌, ℕ, zero, suc, ◌+◌, ◌*◌, ◌<◌, ◌≤◌, max, Bool, true, false, cond, ◌||◌, ltb, List, length, sym, refl, ap, ◌∙◌, subst, ap₂, ⊎_elim, eq-or-lt_of_le, add-one, arith}
+use Rattle.std.proofs.lemmas.Bool.{cond-true, cond-false, cond_both, cases_Bool, and_from, and_parts, ltb-false, lt-ltb, true≢false, cases_eq}
 use Rattle.journal.specs.declared.limits.Limits.{Limits}
 use Rattle.journal.specs.Bytes.{put}
 use Rattle.journal.specs.Meaning.{Section}
@@ -141,11 +141,7 @@ module _ (v : View) (w : Well v) (min : ℕ) where
       (cases_Bool (below v.limits v.entries min s))
     where
       below_start : (s : ℕ) → below v.limits v.entries min s ≡ true → ltb (start_in v s) min ≡ true
-      below_start s b = second (ltb 0 (count_in v s)) (ltb (start_in v s) min) b
-        where
-          second : (x y : Bool) → (x && y) ≡ true → y ≡ true
-          second true y e = e
-          second false y e = absurd (true≢false (sym e))
+      below_start s b = (and_parts (ltb 0 (count_in v s)) (ltb (start_in v s) min) b).1
 
       stayed : (s : ℕ) → s < v.limits.slots → below v.limits v.entries min s ≡ false → pages_in v s ≡ pruned_slot min (pages_in v s)
       stayed s h b =

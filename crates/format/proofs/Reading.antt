@@ -1,8 +1,8 @@
 -- What reading a row answers and leaves in the buffer, from what the code finds. Assumes nothing.
-use Rattle.std.proofs.Common.{◌≡◌, ℕ, ◌+◌, ◌<◌, ◌≤◌, Bool, true, false, cond, eqb, ltb, List, ◌++◌, length, drop, Some, None, Ok, Err, Option, Result, sym, refl, ap, ◌∙◌, subst, ap₂, arith}
+use Rattle.std.proofs.Common.{◌≡◌, ℕ, ◌+◌, ◌<◌, ◌≤◌, true, false, cond, eqb, ltb, List, ◌++◌, length, drop, Some, None, Ok, Err, Option, Result, sym, refl, ap, ◌∙◌, subst, ap₂, arith}
 use Rattle.std.proofs.lemmas.Bool.{ltb-true, ltb-false, lt-ltb, le-ltb, cond-true, cond-false, cond_both, eq-eqb, ne_eqb}
 use Rattle.std.proofs.lemmas.List.FromFn.{get_or-map-range_with_len}
-use Rattle.std.proofs.lemmas.Option.{slice_get-get_or, slice_get_past}
+use Rattle.std.proofs.lemmas.Option.{cond_some, none-some, slice_get-get_or, slice_get_past}
 use Rattle.std.specs.List.{slice_get}
 use Rattle.journal.specs.declared.row.Entry.{Entry}
 use Rattle.journal.specs.declared.fault.JournalFault.{JournalFault}
@@ -18,7 +18,7 @@ use Rattle.format.specs.Mount.{found, bears}
 use Rattle.format.specs.State.{View, page_in, vals_in, pages_in, meaning_of, count_in, here_if, located}
 use Rattle.format.specs.Well.{IsAt, Well}
 use Rattle.format.proofs.Bytes.{put_front}
-use Rattle.format.proofs.Firsts.{some_none}
+use Rattle.format.proofs.Firsts.{if_none}
 use Rattle.format.proofs.Slots.{length_page, length_vals}
 use Rattle.format.proofs.Meanings.{rows_length, row_length, length_key, rows_found, rows_not_found}
 
@@ -57,23 +57,15 @@ module _ (xs : List ℕ) (a n : ℕ) (h : a + n ≤ length xs) (s p : ℕ) (buff
         )
 
 -- The row at a place.
-some_if : (b : Bool) (s t : ℕ) → cond b (Some s) None ≡ Some t → (b ≡ true) × (s ≡ t)
-some_if true s t h = (refl, cc)
-some_if false s t h = absurd (some_none t (sym h))
-
-none_if : (b : Bool) (s : ℕ) → cond b (Some s) None ≡ None → b ≡ false
-none_if true s h = absurd (some_none s h)
-none_if false s h = refl
-
 pub row_found : (v : View) → Well v → (start p t : ℕ) → Some t ≡ located v start p
     → (row_there (meaning_of v) start p ≡ Some (row_of v.limits.width (row_at v.limits.width (page_in v t) p) (vals_in v t))) × (t < v.limits.slots) × (p < count_in v t)
 row_found v w start p t h = by (found (bears v.limits v.entries start) v.limits.slots) refl (sym h)
   where
     by : (o : Option ℕ) → found (bears v.limits v.entries start) v.limits.slots ≡ o → here_if v p o ≡ Some t
         → (row_there (meaning_of v) start p ≡ Some (row_of v.limits.width (row_at v.limits.width (page_in v t) p) (vals_in v t))) × (t < v.limits.slots) × (p < count_in v t)
-    by None e k = absurd (some_none t (sym k))
+    by None e k = absurd (none-some t k)
     by (Some s) e k =
-        let q = some_if (ltb p (count_in v s)) s t k in
+        let q = cond_some (ltb p (count_in v s)) s t k in
         let r = rows_found v w start t (e ∙ ap Some q.1) in
         let l : p < count_in v t = subst (λ j. p < count_in v j) q.1 (ltb-true _ _ q.0) in
         let f : ℕ → Row = λ r. row_of v.limits.width (row_at v.limits.width (page_in v t) r) (vals_in v t) in
@@ -91,7 +83,7 @@ row_not_found v w start p h = by (found (bears v.limits v.entries start) v.limit
     by : (o : Option ℕ) → found (bears v.limits v.entries start) v.limits.slots ≡ o → here_if v p o ≡ None → row_there (meaning_of v) start p ≡ None
     by None e k = ap (λ rs. slice_get rs p) (rows_not_found v start e)
     by (Some s) e k =
-        ap (λ rs. slice_get rs p) (rows_found v w start s e).0 ∙ slice_get_past (pages_in v s).rows p (omega (arith, rows_length v s, ltb-false p (count_in v s) (none_if (ltb p (count_in v s)) s k)))
+        ap (λ rs. slice_get rs p) (rows_found v w start s e).0 ∙ slice_get_past (pages_in v s).rows p (omega (arith, rows_length v s, ltb-false p (count_in v s) (if_none (ltb p (count_in v s)) s k)))
 
 -- The row and its value lie where they have to.
 module _ (v : View) (w : Well v) (t p : ℕ) (ht : t < v.limits.slots) (hp : p < count_in v t) where

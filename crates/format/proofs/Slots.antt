@@ -1,6 +1,6 @@
 -- A write inside one slot: what it makes of that slot's page and values, and that it leaves the others. Assumes nothing.
-use Rattle.std.proofs.Common.{◌≡◌, ℕ, zero, suc, ◌+◌, ◌*◌, ◌^◌, ◌<◌, ◌≤◌, true, ◌⊎◌, List, [], ◌∷◌, ◌++◌, length, sym, refl, ap, ◌∙◌, subst, ap₂, inl, inr, ⊎_elim, arith}
-use Rattle.std.proofs.lemmas.Bool.{cases_eq}
+use Rattle.std.proofs.Common.{◌≡◌, ℕ, ◌+◌, ◌*◌, ◌^◌, ◌<◌, ◌≤◌, true, List, [], ◌∷◌, ◌++◌, length, sym, refl, ap, ◌∙◌, subst, ap₂, ⊎_elim, arith}
+use Rattle.std.proofs.lemmas.Bool.{cases_eq, cases_order}
 use Rattle.journal.specs.declared.limits.Limits.{Limits}
 use Rattle.journal.specs.declared.row.Label.{Label}
 use Rattle.journal.specs.Bytes.{chunk, put}
@@ -14,12 +14,6 @@ use Rattle.format.specs.Well.{Laid, GoodPage, Well}
 use Rattle.format.proofs.Bytes.{chunk_put_in, chunk_put_whole, length_value_bytes}
 use Rattle.format.proofs.Rows.{length_row}
 use Rattle.format.proofs.Grow.{grown_page, length_head, start_new, count_new, rows_new, good_new}
-
-apart : (s t : ℕ) → (s ≡ t → ⊥) → (s < t) ⊎ (t < s)
-apart zero zero ne = absurd (ne refl)
-apart zero (suc t) ne = inl (omega arith)
-apart (suc s) zero ne = inr (omega arith)
-apart (suc s) (suc t) ne = ⊎_elim (λ l. inl (omega arith)) (λ l. inr (omega arith)) (apart s t (λ e. ne (ap suc e)))
 
 -- Equal parts of one list, one for each slot, and a write inside the part t.
 module _ (size : ℕ) (all : List ℕ) (slots t : ℕ) (la : slots * size ≤ length all) (ht : t < slots)
@@ -36,7 +30,7 @@ module _ (size : ℕ) (all : List ℕ) (slots t : ℕ) (la : slots * size ≤ le
       ⊎_elim
       (λ l. chunk_put_before all b ys (s * size) size w (omega (arith, step_le s t size l)))
       (λ l. chunk_put_after all b ys (s * size) size w (omega (arith, step_le t s size l)))
-      (apart s t ne)
+      (⊎_elim (λ e. absurd (ne e)) (λ o. o) (cases_order s t))
 
 section_path : {a b : ℕ} {r q : List Row} → a ≡ b → r ≡ q → ◌≡◌ {A = Section} (record { start = a; rows = r }) (record { start = b; rows = q })
 section_path e f = ap₂ (λ x y. record { start = x; rows = y }) e f

@@ -1,7 +1,6 @@
 // The mounting check, and what a mounting grants.
 
-ghost use Rattle.std.specs.Prelude.{◌≡◌, ℕ, ◌<◌, true, false, length, slice_index, MatchOption};
-ghost use Rattle.journal.specs.Making.{checked};
+ghost use Rattle.std.specs.Prelude.{◌≡◌, ℕ, ◌<◌, true, false, length, slice_index, Some, None, MatchOption, MatchResult};
 ghost use Rattle.format.specs.Mount as mount;
 ghost use Rattle.format.specs.State as state;
 
@@ -24,22 +23,27 @@ fn sized<'a>(entries: &'a [u8], values: &[u8], limits: Limits) -> Option<Entries
     })
 }
 
-/// Why a mounting is refused, the first reason in its order.
-pub(crate) fn check(entries: &[u8], values: &[u8], limits: Limits) -> Result<(), JournalFault>
-    ensures { result ≡ checked (mount.mount_fault limits entries.now values.now) }
+/// The places in bytes that a mounting accepts; else why it is refused, the first reason in its order.
+pub(crate) fn accepted(
+    entries: &[u8],
+    values: &[u8],
+    limits: Limits,
+) -> Result<Layout, JournalFault>
+    ensures answer { MatchResult result (λ layout. (mount.mount_fault limits entries.now values.now ≡ None) × (layout.limits ≡ limits)) (λ f. mount.mount_fault limits entries.now values.now ≡ Some f) }
+    ensures bytes { (i : ℕ) → slice_index entries.now i < 256 }
 {
-    sized(entries, values, limits)
-        .ok_or(JournalFault::WrongSizes)?
-        .check()
+    let pages = sized(entries, values, limits).ok_or(JournalFault::WrongSizes)?;
+    pages.check()?;
+    Ok(pages.layout)
 }
 
-/// The places under the limits that a mounting grants: those asked for, or 0 where it is refused.
+/// The places that a mounting grants: those of the limits asked for, or of limits 0 where it is refused.
 pub(crate) fn granted(entries: &[u8], values: &[u8], limits: Limits) -> Layout
     ensures answer { result.limits ≡ state.granted limits entries.now values.now }
     ensures bytes { (i : ℕ) → slice_index entries.now i < 256 }
 {
-    match check(entries, values, limits) {
-        Ok(()) => Layout { limits },
+    match accepted(entries, values, limits) {
+        Ok(layout) => layout,
         Err(_) => Layout { limits: NOTHING },
     }
 }

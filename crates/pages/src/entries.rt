@@ -81,15 +81,14 @@ impl<'a> Entries<'a> {
         if !self.is_head_good(slot) {
             return Err(JournalFault::BadHeader { slot });
         }
-        let count = page.count();
-        let row = page.sound_rows(count);
-        if row < count {
-            return Err(JournalFault::BadRow { slot, row });
+        match page.bad_row() {
+            Some(row) => Err(JournalFault::BadRow { slot, row }),
+            None => Ok(()),
         }
-        Ok(())
     }
 
     /// Slot by slot, the first thing wrong with them.
+    // A `for` and `?`: `try_for_each` was tried, and std has no lemma that says what it answers.
     pub(crate) fn check(&self) -> Result<(), JournalFault>
         ensures { result ≡ checked (mount.earliest (mount.slot_fault self.now.layout.limits self.now.bytes.now) self.now.layout.limits.slots) }
     {

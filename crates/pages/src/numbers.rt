@@ -8,7 +8,7 @@ ghost use Rattle.format.specs.Mount as mount;
 
 use keys::fnv::fnv_1a_32;
 
-/// The two checks. They are one function today, and each has its own name, so that one can change alone.
+/// The two checks. Kept as two: the byte format names each, so that one can change alone; today they are one function.
 pub(crate) fn entry_check(bytes: &[u8]) -> u32
     ensures { result ≡ lay.entry_check bytes.now }
 {

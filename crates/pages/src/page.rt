@@ -1,6 +1,6 @@
 // A page of the entries: its header, and its rows.
 
-ghost use Rattle.std.specs.Prelude.{◌≡◌, ◌^◌, ◌<◌, ◌≤◌, ◌&&◌, ◌==◌, nat_lt, length};
+ghost use Rattle.std.specs.Prelude.{◌≡◌, ◌^◌, ◌<◌, ◌≤◌, ◌&&◌, ◌==◌, nat_lt, length, MatchOption};
 ghost use Rattle.format.specs.Layout as lay;
 ghost use Rattle.format.specs.Decode as decode;
 ghost use Rattle.format.specs.Mount as mount;
@@ -66,20 +66,21 @@ impl<'a> Page<'a> {
         0 < count && count <= self.layout.limits.rows && is_checked(self.bytes, HEAD_CHECK_AT)
     }
 
-    /// How many of the first `count` rows are right before one is not.
-    pub(crate) fn sound_rows(&self, count: u64) -> u64
-        requires { count ≤ self.now.layout.limits.rows }
-        ensures { result ≡ mount.passing (mount.row_good self.now.layout.limits.width self.now.layout.limits.bytes self.now.bytes.now) count }
+    /// The first row that is not right.
+    // A `for`: the row's number is the answer, and the offset goes on from row to row, which a closure's capture may not.
+    pub(crate) fn bad_row(&self) -> Option<u64>
+        requires { decode.count_of self.now.bytes.now ≤ self.now.layout.limits.rows }
+        ensures { MatchOption result (mount.sound_rows self.now.layout.limits self.now.bytes.now ≡ decode.count_of self.now.bytes.now) (λ row. (row < decode.count_of self.now.bytes.now) × (mount.sound_rows self.now.layout.limits self.now.bytes.now ≡ row)) }
     {
         let mut used = 0;
-        for r in 0..count {
+        for r in 0..self.count() {
             let row = self.row(r);
             if !row.fits(used) {
-                return r;
+                return Some(r);
             }
             used += row.size();
         }
-        count
+        None
     }
 
     /// Where the page's next value lies: behind that of its last row.

@@ -13,7 +13,7 @@ use crate::layout::{HEAD_SIZE, Layout};
 use crate::numbers::{part, write};
 use crate::page::write_head;
 use crate::row::write_row;
-use crate::value::write_value;
+use crate::value::{SEAL_SIZE, write_value};
 use journal::row::{CHECK_SIZE, Label};
 use journal::slots::below;
 
@@ -61,7 +61,7 @@ impl<'a> Raw<'a> {
         ensures { view self.new ≡ record (view self.old) { values = put self.old.values.now (decode.vals_place self.old.layout.limits slot + offset) (lay.value_bytes value.now) } }
     {
         let at = self.layout.values_place(slot) + offset as usize;
-        let size = value.len() + CHECK_SIZE as usize;
+        let size = value.len() + SEAL_SIZE;
         write_value(&mut self.values[at..at + size], value);
     }
 
@@ -134,6 +134,8 @@ impl<'a> Raw<'a> {
         goes
     }
 
+    /// Frees each slot whose section starts below `min`, raises the floor to it, and tells whether one went.
+    // A `for`, since each step writes: no chain is proved through a closure that changes what it captures.
     pub(crate) fn prune(&mut self, min: u64) -> bool
         ensures answer { result ≡ gone_below self.old.layout.limits self.old.entries.now min self.old.layout.limits.slots }
         ensures after { view self.new ≡ pruned_by (view self.old) min }

@@ -8,13 +8,17 @@ ghost use Rattle.format.specs.Decode as decode;
 
 use crate::numbers::{number_at, part, value_check, write, write_number};
 use journal::fault::JournalFault;
+use journal::row::CHECK_SIZE;
+
+/// The bytes of a value's check.
+pub(crate) const SEAL_SIZE: usize = CHECK_SIZE as usize;
 
 pub(crate) fn write_value(stretch: &mut [u8], value: &[u8])
     requires { length stretch.old ≡ cost_of (length value.now) }
     ensures { stretch.new ≡ lay.value_bytes value.now }
 {
     write(stretch, 0, value);
-    write_number::<4>(stretch, value.len(), u64::from(value_check(value)));
+    write_number::<SEAL_SIZE>(stretch, value.len(), u64::from(value_check(value)));
 }
 
 /// The `n` bytes at a place of a slot's values to the front of `value`, where the check behind them is theirs.
@@ -38,7 +42,7 @@ pub(crate) fn copy_value(
         });
     }
     let stored = part(vals, at, n);
-    if number_at::<4>(vals, at + n) != u64::from(value_check(stored)) {
+    if number_at::<SEAL_SIZE>(vals, at + n) != u64::from(value_check(stored)) {
         return Err(JournalFault::Damaged { section, position });
     }
     write(value, 0, stored);

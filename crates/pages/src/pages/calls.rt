@@ -9,7 +9,7 @@ ghost use Rattle.pages.specs.Journals.{bytes_of, means, Fits};
 ghost use Rattle.pages.specs.Lengths.{sizes_of};
 
 use super::Pages;
-use crate::check::{check, granted};
+use crate::check::{accepted, granted};
 use crate::layout::Layout;
 use crate::numbers::write;
 use crate::raw::Raw;
@@ -36,10 +36,11 @@ impl<'a> Pages<'a> {
     pub fn check(entries: &[u8], values: &[u8], limits: Limits) -> Result<(), JournalFault>
         ensures { result ≡ checked (mount_fault limits entries.now values.now) }
     {
-        check(entries, values, limits)
+        accepted(entries, values, limits).map(|_| ())
     }
 
     /// The journal that these bytes hold, its floor 0; of limits 0 where the check refuses. No byte is touched.
+    // Kept beside no making that answers a Result: tried, and Rattle covers no type argument with a `&mut` and a ghost field.
     pub fn mount(entries: &'a mut [u8], values: &'a mut [u8], limits: Limits) -> Pages<'a>
         ensures fit { Fits tt result }
         ensures meaning { means result ≡ made (mount_fault limits entries.old values.old) (decoded limits entries.old values.old) }
@@ -108,6 +109,7 @@ impl<'a> Journal for Pages<'a> {
         self.raw.pages().first_from(from)
     }
 
+    // A `match`, for the reason at `slot_for`: `map_or` was tried.
     fn row_count(&self, start: u64) -> u64 {
         match self.slot_of(start) {
             Some(slot) => self.count_at(slot),

@@ -42,6 +42,7 @@ impl<'a> Pages<'a> {
     }
 
     /// The slot that a row of a section goes to: its own, or one that is free.
+    // A `match`: `or_else` was tried, and of a closure that an Option calls the proof learns nothing.
     pub(super) fn slot_for(&self, start: u64) -> Result<u64, JournalFault>
         ensures { MatchResult result (λ slot. Takes (view self.now.raw) slot start) (λ f. (f ≡ JournalFault.NoSlot start) × IsFull (view self.now.raw) start) }
     {
@@ -80,7 +81,7 @@ impl<'a> Pages<'a> {
         self.raw.pages().page(slot).row(position)
     }
 
-    /// A row of the section `start` to the slot where it goes, where there is room.
+    /// A row of the section `start` to the slot where it goes, where there is room. The last four are the parameters of `append`.
     pub(super) fn push(
         &mut self,
         slot: u64,

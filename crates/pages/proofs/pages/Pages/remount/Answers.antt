@@ -4,7 +4,8 @@ use Rattle.format.proofs.Makes.{lasts}
 use Rattle.pages.specs.Raws.{view}
 use Rattle.pages.proofs.pages.Pages.remount.Goals as goal
 
-pub returns : goal.returns
-returns c =
-    let e = c.mount.ensures.bytes ∙ lasts (view c.args.self.raw) c.args.self.sound in
-    record { fit = c.mount.ensures.fit; meaning = ap meaning_of e; bytes = e }
+pub returns-clause-meaning : goal.returns-clause-meaning
+returns-clause-meaning c = ap meaning_of (c.mount.ensures.bytes ∙ lasts (view c.args.self.raw) c.args.self.sound)
+
+pub returns-clause-bytes : goal.returns-clause-bytes
+returns-clause-bytes c = c.mount.ensures.bytes ∙ lasts (view c.args.self.raw) c.args.self.sound

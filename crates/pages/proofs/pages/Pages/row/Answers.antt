@@ -11,9 +11,16 @@ row-requires c =
     let l : c.page.result.layout.limits ≡ v.limits = cc in
     rw l (omega (arith, c.requires.position, ((sound_well v c.args.self.now.sound).pages c.args.slot c.requires.slot).few))
 
-pub returns : goal.returns
-returns c =
+pub returns-clause-some : goal.returns-clause-some
+returns-clause-some c =
     let v = view c.args.self.now.raw in
     let g = ((sound_well v c.args.self.now.sound).pages c.args.slot c.requires.slot).each c.args.position c.requires.position in
     let e : c.row.result.bytes.now ≡ row_at v.limits.width (page_in v c.args.slot) c.args.position = cc in
-    record { row = e; limits = (cc); some = rw e g.some; room = rw e (omega (arith, g.place, g.room)) }
+    rw e g.some
+
+pub returns-clause-room : goal.returns-clause-room
+returns-clause-room c =
+    let v = view c.args.self.now.raw in
+    let g = ((sound_well v c.args.self.now.sound).pages c.args.slot c.requires.slot).each c.args.position c.requires.position in
+    let e : c.row.result.bytes.now ≡ row_at v.limits.width (page_in v c.args.slot) c.args.position = cc in
+    rw e (omega (arith, g.place, g.room))
