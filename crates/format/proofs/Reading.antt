@@ -1,5 +1,5 @@
 -- What reading a row answers and leaves in the buffer, from what the code finds. Assumes nothing.
-use Rattle.std.proofs.Common.{◌≡◌, ℕ, ◌+◌, ◌<◌, ◌≤◌, true, false, cond, eqb, ltb, List, ◌++◌, length, drop, Some, None, Ok, Err, Option, Result, sym, refl, ap, ◌∙◌, subst, ap₂, arith}
+use Rattle.std.proofs.Common.{◌≡◌, ℕ, ◌+◌, ◌-◌, ◌==◌, ◌<◌, ◌≤◌, true, false, cond, eqb, ltb, List, ◌++◌, length, drop, Some, None, Ok, Err, Option, Result, sym, refl, ap, ◌∙◌, subst, ap₂, arith}
 use Rattle.std.proofs.lemmas.Bool.{ltb-true, ltb-false, lt-ltb, le-ltb, cond-true, cond-false, cond_both, eq-eqb, ne_eqb}
 use Rattle.std.proofs.lemmas.List.FromFn.{get_or-map-range_with_len}
 use Rattle.std.proofs.lemmas.Option.{cond_some, none-some, slice_get-get_or, slice_get_past}
@@ -17,7 +17,7 @@ use Rattle.format.specs.Decode.{row_at, label_of, key_of, offset_of, size_of, le
 use Rattle.format.specs.Mount.{found, bears}
 use Rattle.format.specs.State.{View, page_in, vals_in, pages_in, meaning_of, count_in, here_if, located}
 use Rattle.format.specs.Well.{IsAt, Well}
-use Rattle.format.proofs.Bytes.{put_front}
+use Rattle.format.proofs.Bytes.{chunk_inside, put_front}
 use Rattle.format.proofs.Firsts.{if_none}
 use Rattle.format.proofs.Slots.{length_page, length_vals}
 use Rattle.format.proofs.Meanings.{rows_length, row_length, length_key, rows_found, rows_not_found}
@@ -55,6 +55,15 @@ module _ (xs : List ℕ) (a n : ℕ) (h : a + n ≤ length xs) (s p : ℕ) (buff
           ea ∙ (put_front buffer (chunk xs a n) (length (chunk xs a n)) refl
               ∙ sym (ap (λ x. content_fill x buffer) d ∙ cond-false (ltb (length buffer) (length (chunk xs a n))) buffer (chunk xs a n ++ drop (length (chunk xs a n)) buffer) t)),
         )
+
+-- The same value, in its stretch and in all values of its slot.
+pub content_inside : (xs : List ℕ) (a z : ℕ) → check_size ≤ z → content_of (chunk xs a z) 0 (z - check_size) ≡ content_of xs a (z - check_size)
+unfolding content_of
+content_inside xs a z h =
+    let n = z - check_size in
+    ap₂ (λ (seal bytes : List ℕ). cond (be seal == value_check bytes) (sound bytes) (damaged n))
+    (sym (chunk_inside xs a z (0 + n) check_size (a + n) (omega arith) (omega arith)))
+    (sym (chunk_inside xs a z 0 n a (omega arith) (omega arith)))
 
 -- The row at a place.
 pub row_found : (v : View) → Well v → (start p t : ℕ) → Some t ≡ located v start p

@@ -1,7 +1,7 @@
 // Byte pages as they lie, and what is written to them.
 
 ghost use Rattle.std.specs.Prelude.{◌≡◌, ◌+◌, ◌*◌, ◌^◌, ◌<◌, ◌≤◌, length};
-ghost use Rattle.journal.specs.Bytes.{put};
+ghost use Rattle.journal.specs.Bytes.{chunk, put};
 ghost use Rattle.journal.specs.Meaning.{cost_of};
 ghost use Rattle.format.specs.Layout as lay;
 ghost use Rattle.format.specs.Decode as decode;
@@ -42,17 +42,15 @@ impl<'a> Raw<'a> {
         }
     }
 
-    pub(crate) fn slot_values(&self, slot: u64) -> &[u8]
-        requires { slot < self.now.layout.limits.slots }
-        ensures vals { result.now ≡ decode.vals self.now.layout.limits self.now.values.now slot }
-        ensures long { length result.now ≡ self.now.layout.limits.bytes }
+    /// The bytes at an offset of a slot's values.
+    pub(crate) fn stored(&self, slot: u64, offset: u64, size: u64) -> &[u8]
+        requires slot { slot < self.now.layout.limits.slots }
+        requires room { offset + size ≤ self.now.layout.limits.bytes }
+        ensures stored { result.now ≡ chunk (decode.vals self.now.layout.limits self.now.values.now slot) offset size }
+        ensures long { length result.now ≡ size }
     {
-        let layout = self.layout;
-        part(
-            self.values,
-            layout.values_place(slot),
-            layout.limits.bytes as usize,
-        )
+        let at = self.layout.values_place(slot) + offset as usize;
+        part(self.values, at, size as usize)
     }
 
     fn set_value(&mut self, slot: u64, offset: u64, value: &[u8])

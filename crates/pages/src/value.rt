@@ -1,6 +1,6 @@
 // A row's value, with its check behind it.
 
-ghost use Rattle.std.specs.Prelude.{◌≡◌, ◌+◌, ◌≤◌, length};
+ghost use Rattle.std.specs.Prelude.{◌≡◌, ◌-◌, ◌≤◌, length};
 ghost use Rattle.journal.specs.Meaning.{check_size, cost_of};
 ghost use Rattle.journal.specs.Calls.{content_answer, content_fill};
 ghost use Rattle.format.specs.Layout as lay;
@@ -21,30 +21,29 @@ pub(crate) fn write_value(stretch: &mut [u8], value: &[u8])
     write_number::<SEAL_SIZE>(stretch, value.len(), u64::from(value_check(value)));
 }
 
-/// The `n` bytes at a place of a slot's values to the front of `value`, where the check behind them is theirs.
+/// A stored value to the front of `value`, where the check behind it is its own.
 pub(crate) fn copy_value(
-    vals: &[u8],
-    at: usize,
-    n: usize,
+    stored: &[u8],
     section: u64,
     position: u64,
     value: &mut [u8],
 ) -> Result<u64, JournalFault>
-    requires { at + n + check_size ≤ length vals.now }
-    ensures answer { result ≡ content_answer (decode.content_of vals.now at n) section position (length value.old) }
-    ensures buffer { value.new ≡ content_fill (decode.content_of vals.now at n) value.old }
+    requires { check_size ≤ length stored.now }
+    ensures answer { result ≡ content_answer (decode.content_of stored.now 0 (length stored.now - check_size)) section position (length value.old) }
+    ensures buffer { value.new ≡ content_fill (decode.content_of stored.now 0 (length stored.now - check_size)) value.old }
 {
-    if value.len() < n {
+    let size = stored.len() - SEAL_SIZE;
+    if value.len() < size {
         return Err(JournalFault::Short {
             section,
             position,
-            amount: n as u64,
+            amount: size as u64,
         });
     }
-    let stored = part(vals, at, n);
-    if number_at::<SEAL_SIZE>(vals, at + n) != u64::from(value_check(stored)) {
+    let bytes = part(stored, 0, size);
+    if number_at::<SEAL_SIZE>(stored, size) != u64::from(value_check(bytes)) {
         return Err(JournalFault::Damaged { section, position });
     }
-    write(value, 0, stored);
-    Ok(n as u64)
+    write(value, 0, bytes);
+    Ok(size as u64)
 }

@@ -174,9 +174,9 @@ impl<'a> Journal for Pages<'a> {
     {
         let slot = self.locate(start, position)?;
         let row = self.row(slot, position);
-        let at = row.offset() as usize;
-        let n = (row.size() - CHECK_SIZE) as usize;
-        copy_value(self.raw.slot_values(slot), at, n, start, position, value)
+        let offset = row.offset();
+        let size = row.size();
+        copy_value(self.raw.stored(slot, offset, size), start, position, value)
     }
 
     fn prune(&mut self, min: u64) -> bool

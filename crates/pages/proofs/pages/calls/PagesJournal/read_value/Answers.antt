@@ -1,11 +1,11 @@
-use Rattle.std.proofs.Common.{◌≡◌, ℕ, ◌-◌, List, length, ap, ◌∙◌}
+use Rattle.std.proofs.Common.{◌≡◌, ℕ, ◌-◌, length, ap, ap₂, ◌∙◌, arith}
 use Rattle.std.proofs.lemmas.Result.{err_from_is_err_and}
 use Rattle.journal.specs.Calls.{content_answer, content_fill}
-use Rattle.journal.specs.Meaning.{check_size}
+use Rattle.journal.specs.Meaning.{Content, check_size}
 use Rattle.format.specs.Decode.{content_of, offset_of, row_at, size_of}
-use Rattle.format.specs.State.{page_in}
+use Rattle.format.specs.State.{page_in, vals_in}
 use Rattle.format.proofs.Mounting.{sound_well}
-use Rattle.format.proofs.Reading.{a_value, no_value}
+use Rattle.format.proofs.Reading.{a_value, content_inside, no_value}
 use Rattle.pages.proofs.Answering.{reads_value}
 use Rattle.pages.specs.Raws.{view}
 use Rattle.pages.proofs.pages.calls.PagesJournal.read_value.Goals as goal
@@ -22,10 +22,13 @@ returns-clause-promise c =
     let t = c.in_ok-slot.slot in
     let w = v.limits.width in
     let row = row_at w (page_in v t) c.args.position in
-    let at : c.offset-at.result ≡ offset_of w row = cc in
-    let size : c.size.result ≡ size_of w row = cc in
-    let n = c.size.result - check_size in
-    reads_value c.args.self.now (a_value v (sound_well v c.args.self.now.sound) c.args.start c.args.position c.args.value.now t c.in_ok-slot.ensures.found c.copy_value.result c.copy_value.new.value c.offset-at.result n
+    let at : c.offset-offset.result ≡ offset_of w row = cc in
+    let size : c.size-size.result ≡ size_of w row = cc in
+    let e : size_of w c.row-row.result.bytes.now ≡ size_of w row = cc in
+    let n = c.size-size.result - check_size in
+    let stored : content_of c.stored.result.now 0 (length c.stored.result.now - check_size) ≡ content_of (vals_in v t) c.offset-offset.result n =
+    ap₂ (λ s (k : ℕ). content_of s 0 (k - check_size)) c.stored.ensures.stored c.stored.ensures.long ∙ content_inside (vals_in v t) c.offset-offset.result c.size-size.result (omega (arith, c.row-row.ensures.some, size, e)) in
+    reads_value c.args.self.now (a_value v (sound_well v c.args.self.now.sound) c.args.start c.args.position c.args.value.now t c.in_ok-slot.ensures.found c.copy_value.result c.copy_value.new.value c.offset-offset.result n
     at (ap (λ (z : ℕ). z - check_size) size)
-    (c.copy_value.ensures.answer ∙ ap (λ (x : List ℕ). content_answer (content_of x c.offset-at.result n) c.args.start c.args.position (length c.args.value.now)) c.slot_values.ensures.vals)
-    (c.copy_value.ensures.buffer ∙ ap (λ (x : List ℕ). content_fill (content_of x c.offset-at.result n) c.args.value.now) c.slot_values.ensures.vals))
+    (c.copy_value.ensures.answer ∙ ap (λ (x : Content). content_answer x c.args.start c.args.position (length c.args.value.now)) stored)
+    (c.copy_value.ensures.buffer ∙ ap (λ (x : Content). content_fill x c.args.value.now) stored))
