@@ -15,7 +15,7 @@ use Rattle.format.specs.State.{View, page_in, pages_in, meaning_of, count_in, us
 use Rattle.format.specs.Well.{Well, IsFull, Stores}
 use Rattle.format.proofs.Firsts.{found_some, found_none}
 use Rattle.format.proofs.Mounting.{above_zero, bears_true, free_count, sound_well, sound_again}
-use Rattle.format.proofs.Slots.{length_entries, length_values, section_new, section_old, well_stored}
+use Rattle.format.proofs.Slots.{kept}
 use Rattle.format.proofs.Meanings.{rows_length, counted, taken, cost_rows, distinct, absent}
 
 -- The slot that a row goes to.
@@ -93,13 +93,13 @@ module _ (v : View) (start : ℕ) (label : Label) (key value : List ℕ) (s : is
         takes hk ns nn v' n e q =
             let r = refusals.taken (meaning_of v) start key value label (refusals.fault_none (meaning_of v) start key value lk fl room (omega (arith, counts)) (omega (arith, costs))) in
             let others = λ (i : ℕ) (hi : i < v.limits.slots) (ne : i ≡ t → ⊥) (c : 0 < count_in v i). goes.alone i hi ne (counted v i c) in
+            let s' = kept v well t k.slot start label key value lk hc hk ns nn in
             let g = slots.kept_grown (pages_in v) (pages_in (stored v t start label key value)) v.limits.slots t start v.floor (new_row label key value) goes
-            (record { here = section_new v well t k.slot start label key value lk hc hk ns nn; others = λ i hi ne. section_old v well t k.slot start label key value lk hc hk ns nn i ne })
+            (record { here = s'.here; others = λ i hi ne. s'.others i ne })
             (slots.rising (pages_in v) v.limits.slots v.floor (λ i hi a. well.above i hi (taken v i a))) in
             subst (λ (x : View). Stores v x start label key value (Ok n)) (sym e)
             (record {
-              sound = sound_again v (stored v t start label key value) s (well_stored v well t k.slot start label key value lk hc hk ns nn others fl) refl
-                  (length_entries v well t k.slot start label key value lk hc hk ns nn) (length_values v well t k.slot start label key value lk hc hk ns nn);
+              sound = sound_again v (stored v t start label key value) s (s'.again others fl) refl s'.entries s'.values;
               answer = ap (λ (i : ℕ). Ok i) (q ∙ sym counts) ∙ r.0;
               after = ap (λ (xs : List Section). record { limits = v.limits; floor = v.floor; sections = xs }) g ∙ r.1;
               bytes = (t, k, refl);

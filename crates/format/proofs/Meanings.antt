@@ -16,14 +16,14 @@ use Rattle.format.specs.Numbers.{be}
 use Rattle.format.specs.Layout.{key_at, row_size, row_place, value_check}
 use Rattle.format.specs.Decode.{page, start_of, count_of, row_at, key_of, offset_of, size_of, length_of, content_of, row_of, used, first_rows}
 use Rattle.format.specs.Mount.{found, bears}
-use Rattle.format.specs.State.{View, page_in, vals_in, pages_in, meaning_of, count_in, start_in, used_in, is_sound, first_from}
+use Rattle.format.specs.State.{View, page_in, row_in, vals_in, pages_in, meaning_of, count_in, start_in, used_in, is_sound, first_from}
 use Rattle.format.specs.Well.{GoodPage, Well}
 use Rattle.format.proofs.Firsts.{fold_range, found_some, found_none}
 use Rattle.format.proofs.Mounting.{bears_true, true_bears, sound_well}
 use Rattle.format.proofs.Slots.{length_page, length_vals}
 
 pub rows_length : (v : View) (s : ℕ) → length (pages_in v s).rows ≡ count_in v s
-rows_length v s = length-map-range_with_len (λ r. row_of v.limits.width (row_at v.limits.width (page_in v s) r) (vals_in v s)) 0 (count_in v s)
+rows_length v s = length-map-range_with_len (λ r. row_of v.limits.width (row_in v s r) (vals_in v s)) 0 (count_in v s)
 
 pub counted : (v : View) (s : ℕ) → 0 < count_in v s → 0 < length (pages_in v s).rows
 counted v s h = omega (arith, rows_length v s)
@@ -69,21 +69,21 @@ distinct v w i j hi hj a b e =
     ⊎_elim (λ q. q) (⊎_elim (λ q. absurd (w.distinct i j q hj (taken v i a) (taken v j b) e)) (λ q. absurd (w.distinct j i q hi (taken v j b) (taken v i a) (sym e)))) (cases_order i j)
 
 -- Keys.
-long_row : (v : View) → Well v → (i : ℕ) → i < v.limits.slots → (r : ℕ) → r < v.limits.rows → length (row_at v.limits.width (page_in v i) r) ≡ row_size v.limits.width
+long_row : (v : View) → Well v → (i : ℕ) → i < v.limits.slots → (r : ℕ) → r < v.limits.rows → length (row_in v i r) ≡ row_size v.limits.width
 long_row v w i h r q =
     length_chunk (page_in v i) (row_place v.limits.width r) (row_size v.limits.width)
     (omega (arith, length_page v.limits v.entries w.laid i h, step_le r v.limits.rows (row_size v.limits.width) q))
 
-pub length_key : (v : View) → Well v → (i : ℕ) → i < v.limits.slots → (r : ℕ) → r < count_in v i → length (key_of v.limits.width (row_at v.limits.width (page_in v i) r)) ≡ v.limits.width
+pub length_key : (v : View) → Well v → (i : ℕ) → i < v.limits.slots → (r : ℕ) → r < count_in v i → length (key_of v.limits.width (row_in v i r)) ≡ v.limits.width
 unfolding key_of
-length_key v w i h r q = length_chunk (row_at v.limits.width (page_in v i) r) key_at v.limits.width (omega (arith, long_row v w i h r (omega (arith, (w.pages i h).few))))
+length_key v w i h r q = length_chunk (row_in v i r) key_at v.limits.width (omega (arith, long_row v w i h r (omega (arith, (w.pages i h).few))))
 
 no_row : Row
 no_row = record { label = record { number = 0 }; key = []; content = damaged 0 }
 
 keys_are : (v : View) → Well v → (i : ℕ) → i < v.limits.slots → AllByRecursion (λ (r : Row). length r.key ≡ v.limits.width) (pages_in v i).rows
 keys_are v w i h =
-    let f : ℕ → Row = λ r. row_of v.limits.width (row_at v.limits.width (page_in v i) r) (vals_in v i) in
+    let f : ℕ → Row = λ r. row_of v.limits.width (row_in v i r) (vals_in v i) in
     All-from_get_or (λ (r : Row). length r.key ≡ v.limits.width) (pages_in v i).rows no_row
     (λ j q. let k : j < count_in v i = omega (arith, rows_length v i) in
     subst (λ (r : Row). length r.key ≡ v.limits.width) (sym (get_or-map-range_with_len f 0 (count_in v i) j j no_row k (omega arith))) (length_key v w i h j k))

@@ -13,9 +13,9 @@ use Rattle.journal.specs.Calls.{entry_answer, entry_fill, entry_read, entry_buff
 use Rattle.journal.proofs.Bytes.{length_chunk, step_le}
 use Rattle.format.specs.Numbers.{be}
 use Rattle.format.specs.Layout.{row_size, row_place, value_check}
-use Rattle.format.specs.Decode.{row_at, label_of, key_of, offset_of, size_of, length_of, content_of, row_of}
+use Rattle.format.specs.Decode.{label_of, key_of, offset_of, size_of, length_of, content_of, row_of}
 use Rattle.format.specs.Mount.{found, bears}
-use Rattle.format.specs.State.{View, page_in, vals_in, pages_in, meaning_of, count_in, here_if, located}
+use Rattle.format.specs.State.{View, page_in, row_in, vals_in, pages_in, meaning_of, count_in, here_if, located}
 use Rattle.format.specs.Well.{IsAt, Well}
 use Rattle.format.proofs.Bytes.{chunk_inside, put_front}
 use Rattle.format.proofs.Firsts.{if_none}
@@ -67,17 +67,17 @@ content_inside xs a z h =
 
 -- The row at a place.
 pub row_found : (v : View) → Well v → (start p t : ℕ) → Some t ≡ located v start p
-    → (row_there (meaning_of v) start p ≡ Some (row_of v.limits.width (row_at v.limits.width (page_in v t) p) (vals_in v t))) × (t < v.limits.slots) × (p < count_in v t)
+    → (row_there (meaning_of v) start p ≡ Some (row_of v.limits.width (row_in v t p) (vals_in v t))) × (t < v.limits.slots) × (p < count_in v t)
 row_found v w start p t h = by (found (bears v.limits v.entries start) v.limits.slots) refl (sym h)
   where
     by : (o : Option ℕ) → found (bears v.limits v.entries start) v.limits.slots ≡ o → here_if v p o ≡ Some t
-        → (row_there (meaning_of v) start p ≡ Some (row_of v.limits.width (row_at v.limits.width (page_in v t) p) (vals_in v t))) × (t < v.limits.slots) × (p < count_in v t)
+        → (row_there (meaning_of v) start p ≡ Some (row_of v.limits.width (row_in v t p) (vals_in v t))) × (t < v.limits.slots) × (p < count_in v t)
     by None e k = absurd (none-some t k)
     by (Some s) e k =
         let q = cond_some (ltb p (count_in v s)) s t k in
         let r = rows_found v w start t (e ∙ ap Some q.1) in
         let l : p < count_in v t = subst (λ j. p < count_in v j) q.1 (ltb-true _ _ q.0) in
-        let f : ℕ → Row = λ r. row_of v.limits.width (row_at v.limits.width (page_in v t) r) (vals_in v t) in
+        let f : ℕ → Row = λ r. row_of v.limits.width (row_in v t r) (vals_in v t) in
         (ap (λ rs. slice_get rs p) r.0 ∙ (slice_get-get_or (pages_in v t).rows p (f p) (omega (arith, rows_length v t)) ∙ ap Some (get_or-map-range_with_len f 0 (count_in v t) p p (f p) l (omega arith))), r.1, l)
 
 pub is_at : (v : View) → Well v → (start p t : ℕ) → Some t ≡ found (bears v.limits v.entries start) v.limits.slots → p < count_in v t → IsAt v start p t
@@ -99,8 +99,8 @@ module _ (v : View) (w : Well v) (t p : ℕ) (ht : t < v.limits.slots) (hp : p <
   pub row_ends : row_place v.limits.width p + row_size v.limits.width ≤ length (page_in v t)
   row_ends = omega (arith, length_page v.limits v.entries w.laid t ht, step_le p v.limits.rows (row_size v.limits.width) (omega (arith, (w.pages t ht).few)))
 
-  pub value_ends : (check_size ≤ size_of v.limits.width (row_at v.limits.width (page_in v t) p))
-      × (offset_of v.limits.width (row_at v.limits.width (page_in v t) p) + size_of v.limits.width (row_at v.limits.width (page_in v t) p) ≤ length (vals_in v t))
+  pub value_ends : (check_size ≤ size_of v.limits.width (row_in v t p))
+      × (offset_of v.limits.width (row_in v t p) + size_of v.limits.width (row_in v t p) ≤ length (vals_in v t))
   value_ends = let g = (w.pages t ht).each p hp in (g.some, omega (arith, g.place, g.room, length_vals v w t ht))
 
 -- The two reads.
@@ -125,20 +125,20 @@ module _ (v : View) (w : Well v) (start p : ℕ) (buffer : List ℕ) where
         (sym (ap (λ o. entry_answer o v.limits.width start p (length buffer)) r ∙ cond-true _ _ _ q), sym (ap (λ o. entry_fill o v.limits.width buffer) r ∙ cond-true _ _ _ q))
 
     pub an_entry : v.limits.width ≤ length buffer → (r : Entry) (after : List ℕ)
-        → r ≡ record { label = label_of v.limits.width (row_at v.limits.width (page_in v t) p); length = length_of v.limits.width (row_at v.limits.width (page_in v t) p) }
-        → after ≡ put buffer 0 (key_of v.limits.width (row_at v.limits.width (page_in v t) p)) → EntryRead (Ok r) after
+        → r ≡ record { label = label_of v.limits.width (row_in v t p); length = length_of v.limits.width (row_in v t p) }
+        → after ≡ put buffer 0 (key_of v.limits.width (row_in v t p)) → EntryRead (Ok r) after
     an_entry h r after er ea =
         let f = row_found v w start p t e in
         let q = le-ltb _ _ h in
         let z = row_length v.limits (page_in v t) (vals_in v t) (w.pages t f.1) (length_vals v w t f.1) p f.2 in (
-          ap (λ (y : Entry). Ok y) (er ∙ ap (λ (k : ℕ). record { label = label_of v.limits.width (row_at v.limits.width (page_in v t) p); length = k }) (sym z))
+          ap (λ (y : Entry). Ok y) (er ∙ ap (λ (k : ℕ). record { label = label_of v.limits.width (row_in v t p); length = k }) (sym z))
               ∙ sym (ap (λ o. entry_answer o v.limits.width start p (length buffer)) f.0 ∙ cond-false _ _ _ q),
-          ea ∙ (put_front buffer (key_of v.limits.width (row_at v.limits.width (page_in v t) p)) v.limits.width (length_key v w t f.1 p f.2)
+          ea ∙ (put_front buffer (key_of v.limits.width (row_in v t p)) v.limits.width (length_key v w t f.1 p f.2)
               ∙ sym (ap (λ o. entry_fill o v.limits.width buffer) f.0 ∙ cond-false _ _ _ q)),
         )
 
     pub a_value : (r : Result ℕ JournalFault) (after : List ℕ) (a n : ℕ)
-        → a ≡ offset_of v.limits.width (row_at v.limits.width (page_in v t) p) → n ≡ length_of v.limits.width (row_at v.limits.width (page_in v t) p)
+        → a ≡ offset_of v.limits.width (row_in v t p) → n ≡ length_of v.limits.width (row_in v t p)
         → r ≡ content_answer (content_of (vals_in v t) a n) start p (length buffer) → after ≡ content_fill (content_of (vals_in v t) a n) buffer → ValueRead r after
     a_value r after a n ha hn er ea =
         let f = (row_found v w start p t e).0 in

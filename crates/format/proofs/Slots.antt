@@ -13,7 +13,7 @@ use Rattle.format.specs.State.{View, page_in, vals_in, pages_in, count_in, start
 use Rattle.format.specs.Well.{Laid, GoodPage, Well}
 use Rattle.format.proofs.Bytes.{chunk_put_in, chunk_put_whole, length_value_bytes}
 use Rattle.format.proofs.Rows.{length_row}
-use Rattle.format.proofs.Grow.{grown_page, length_head, start_new, count_new, rows_new, good_new}
+use Rattle.format.proofs.Grow.{Grown, grown, grown_page, length_head}
 
 -- Equal parts of one list, one for each slot, and a write inside the part t.
 module _ (size : ℕ) (all : List ℕ) (slots t : ℕ) (la : slots * size ≤ length all) (ht : t < slots)
@@ -48,7 +48,7 @@ pub length_vals : (v : View) → Well v → (t : ℕ) → t < v.limits.slots →
 length_vals v w t ht = length_chunk v.values (t * v.limits.bytes) v.limits.bytes (vals_ends v w t ht)
 
 -- Well again after a change of the slot t: each other page as before, and the new page good, with a start that no other has.
-pub well_changed : (v v' : View) (t : ℕ) → Well v → v'.limits ≡ v.limits → v'.floor ≡ v.floor → length v'.entries ≡ length v.entries → length v'.values ≡ length v.values
+well_changed : (v v' : View) (t : ℕ) → Well v → v'.limits ≡ v.limits → v'.floor ≡ v.floor → length v'.entries ≡ length v.entries → length v'.values ≡ length v.values
     → GoodPage v.limits (page_in v' t) → ((s : ℕ) → (s ≡ t → ⊥) → page_in v' s ≡ page_in v s)
     → (0 < count_in v' t → (v.floor ≤ start_in v' t) × (start_in v' t < 2 ^ 64) × ((s : ℕ) → s < v.limits.slots → (s ≡ t → ⊥) → 0 < count_in v s → start_in v s ≡ start_in v' t → ⊥)) → Well v'
 well_changed v v' t w el ef ee ev good old new =
@@ -129,13 +129,13 @@ module _ (v : View) (well : Well v) (t : ℕ) (ht : t < v.limits.slots) (start :
   head_place : page_place l t ≡ t * size + 0
   head_place = omega arith
 
-  pub length_entries : length v'.entries ≡ length v.entries
+  length_entries : length v'.entries ≡ length v.entries
   length_entries = length_slot_put size mid v.limits.slots t mid_long ht 0 (page_place l t) head head_place head_fit ∙ length_mid
 
   value_fit : u + length (value_bytes x) ≤ v.limits.bytes
   value_fit = omega (arith, length_value_bytes x)
 
-  pub length_values : length v'.values ≡ length v.values
+  length_values : length v'.values ≡ length v.values
   length_values = length_slot_put v.limits.bytes v.values v.limits.slots t well.long ht u (t * v.limits.bytes + u) (value_bytes x) refl value_fit
 
   page_new : page_in v' t ≡ grown_page v.limits.width (page_in v t) c start label k u (cost_of (length x))
@@ -163,32 +163,40 @@ module _ (v : View) (well : Well v) (t : ℕ) (ht : t < v.limits.slots) (start :
   long_page : length (page_in v t) ≡ size
   long_page = length_page v.limits v.entries well.laid t ht
 
-  start_grown : start_of (grown_page v.limits.width (page_in v t) c start label k u (cost_of (length x))) ≡ start
-  start_grown = start_new v.limits (page_in v t) (vals_in v t) (well.pages t ht) long_page (length_vals v well t ht) start label k x lk c refl room rows_small u refl fits bytes_small ns nn
+  page_grown : Grown v.limits (page_in v t) (vals_in v t) (well.pages t ht) long_page (length_vals v well t ht) start label k x lk c refl room rows_small u refl fits bytes_small ns nn
+  page_grown = grown v.limits (page_in v t) (vals_in v t) (well.pages t ht) long_page (length_vals v well t ht) start label k x lk c refl room rows_small u refl fits bytes_small ns nn
 
-  count_grown : count_of (grown_page v.limits.width (page_in v t) c start label k u (cost_of (length x))) ≡ c + 1
-  count_grown = count_new v.limits (page_in v t) (vals_in v t) (well.pages t ht) long_page (length_vals v well t ht) start label k x lk c refl room rows_small u refl fits bytes_small ns nn
-
-  pub section_new : pages_in v' t ≡ record { start = start; rows = (pages_in v t).rows ++ new_row label k x ∷ [] }
+  section_new : pages_in v' t ≡ record { start = start; rows = (pages_in v t).rows ++ new_row label k x ∷ [] }
   section_new =
       ap₂ (section_of v.limits.width) page_new vals_new
-      ∙ section_path start_grown
-      (ap (first_rows v.limits.width (grown_page v.limits.width (page_in v t) c start label k u (cost_of (length x))) (put (vals_in v t) u (value_bytes x))) count_grown
-      ∙ rows_new v.limits (page_in v t) (vals_in v t) (well.pages t ht) long_page (length_vals v well t ht) start label k x lk c refl room rows_small u refl fits bytes_small ns nn)
+      ∙ section_path page_grown.begins
+      (ap (first_rows v.limits.width (grown_page v.limits.width (page_in v t) c start label k u (cost_of (length x))) (put (vals_in v t) u (value_bytes x))) page_grown.counts ∙ page_grown.holds)
 
-  pub section_old : (s : ℕ) → (s ≡ t → ⊥) → pages_in v' s ≡ pages_in v s
+  section_old : (s : ℕ) → (s ≡ t → ⊥) → pages_in v' s ≡ pages_in v s
   section_old s ne = ap₂ (section_of v.limits.width) (page_old s ne) (vals_old s ne)
 
   start_stored : start_in v' t ≡ start
-  start_stored = ap start_of page_new ∙ start_grown
+  start_stored = ap start_of page_new ∙ page_grown.begins
 
-  pub well_stored : ((s : ℕ) → s < v.limits.slots → (s ≡ t → ⊥) → 0 < count_in v s → start_in v s ≡ start → ⊥) → v.floor ≤ start → Well v'
-  well_stored others fl =
-      well_changed v v' t well refl refl length_entries length_values
-      (subst (GoodPage v.limits) (sym page_new)
-      (good_new v.limits (page_in v t) (vals_in v t) (well.pages t ht) long_page (length_vals v well t ht) start label k x lk c refl room rows_small u refl fits bytes_small ns nn))
-      page_old
-      (λ _. (omega (arith, fl, start_stored), omega (arith, ns, start_stored), λ s hs ne a e. others s hs ne a (e ∙ start_stored)))
+  -- Byte pages with the row.
+  pub record Kept : Type 0 where
+    pub entries : length (stored v t start label k x).entries ≡ length v.entries
+    pub values : length (stored v t start label k x).values ≡ length v.values
+    pub here : pages_in (stored v t start label k x) t ≡ record { start = start; rows = (pages_in v t).rows ++ new_row label k x ∷ [] }
+    pub others : (s : ℕ) → (s ≡ t → ⊥) → pages_in (stored v t start label k x) s ≡ pages_in v s
+    pub again : ((s : ℕ) → s < v.limits.slots → (s ≡ t → ⊥) → 0 < count_in v s → start_in v s ≡ start → ⊥) → v.floor ≤ start → Well (stored v t start label k x)
+
+  pub kept : Kept
+  kept = record {
+    entries = length_entries;
+    values = length_values;
+    here = section_new;
+    others = section_old;
+    again = λ alone fl. well_changed v v' t well refl refl length_entries length_values
+        (subst (GoodPage v.limits) (sym page_new) page_grown.sure)
+        page_old
+        (λ _. (omega (arith, fl, start_stored), omega (arith, ns, start_stored), λ s hs ne a e. alone s hs ne a (e ∙ start_stored)));
+  }
 
 -- A slot freed.
 module _ (l : Limits) (es : List ℕ) (long : l.slots * page_size l.rows l.width ≤ length es) (t : ℕ) (ht : t < l.slots) where

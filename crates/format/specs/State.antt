@@ -1,5 +1,6 @@
 -- Byte pages as plain data, and what each call makes of them.
 --   View                  limits, floor, entries and values
+--   page_in, vals_in, row_in, count_in, start_in, used_in   the parts of a slot
 --   pages_in v            the section of each slot
 --   meaning_of v          what the bytes mean
 --   offered l es vs       the bytes es and vs under the limits l, their floor 0
@@ -28,7 +29,7 @@ use Rattle.journal.specs.Calls.{or_keep}
 use Rattle.journal.specs.Making.{nothing}
 use Rattle.journal.specs.Slots.{Pages, kept_in, nearest, goes}
 use Rattle.format.specs.Layout.{row_place, row_bytes, head_bytes, value_bytes, free_head}
-use Rattle.format.specs.Decode.{page_place, vals_place, page, vals, start_of, count_of, is_free, used, section_of}
+use Rattle.format.specs.Decode.{page_place, vals_place, page, vals, start_of, count_of, is_free, row_at, used, section_of}
 use Rattle.format.specs.Mount.{is_none, found, bears, mount_fault}
 
 pub record View : Type 0 where
@@ -48,6 +49,9 @@ pages_in v s = section_of v.limits.width (page_in v s) (vals_in v s)
 
 abbrev pub meaning_of : View → Meaning
 meaning_of v = record { limits = v.limits; floor = v.floor; sections = kept_in (pages_in v) v.limits.slots }
+
+abbrev pub row_in : View → ℕ → ℕ → List ℕ
+row_in v s r = row_at v.limits.width (page_in v s) r
 
 abbrev pub count_in : View → ℕ → ℕ
 count_in v s = count_of (page_in v s)

@@ -88,7 +88,7 @@ impl<'a> Entries<'a> {
     }
 
     /// Slot by slot, the first thing wrong with them.
-    // A `for` and `?`: `try_for_each` was tried, and std has no lemma that says what it answers.
+    // A `for` and `?`: `try_for_each` is no plainer, and std has no lemma on what it answers.
     pub(crate) fn check(&self) -> Result<(), JournalFault>
         ensures { result ≡ checked (mount.earliest (mount.slot_fault self.now.layout.limits self.now.bytes.now) self.now.layout.limits.slots) }
     {

@@ -80,6 +80,7 @@ impl Layout {
     }
 
     /// Where a slot's page lies among the entries.
+    // That a slot is below `slots` stays a `requires`, here and above: a type for it would have to ask that its limits are these.
     pub(crate) fn page_place(self, slot: u64) -> usize
         requires { slot ≤ self.limits.slots }
         ensures { result ≡ decode.page_place self.limits slot }

@@ -3,8 +3,8 @@ use Rattle.std.proofs.lemmas.Result.{err_from_is_err_and}
 use Rattle.journal.specs.declared.row.Label.{Label}
 use Rattle.journal.specs.Bytes.{put}
 use Rattle.journal.specs.Meaning.{check_size}
-use Rattle.format.specs.Decode.{key_of, label_of, row_at, size_of}
-use Rattle.format.specs.State.{page_in}
+use Rattle.format.specs.Decode.{key_of, label_of, size_of}
+use Rattle.format.specs.State.{row_in}
 use Rattle.format.proofs.Mounting.{sound_well}
 use Rattle.format.proofs.Reading.{an_entry, no_entry, short_entry}
 use Rattle.pages.proofs.Answering.{reads_entry}
@@ -27,7 +27,7 @@ returns-clause-promise c =
     let v = view c.args.self.now.raw in
     let t = c.in_ok-slot.slot in
     let w = v.limits.width in
-    let row = row_at w (page_in v t) c.args.position in
+    let row = row_in v t c.args.position in
     let label : c.label.result ≡ label_of w row = cc in
     let size : c.size.result ≡ size_of w row = cc in
     let key : c.write.new.bytes ≡ put c.args.key.now 0 (key_of w row) = cc in

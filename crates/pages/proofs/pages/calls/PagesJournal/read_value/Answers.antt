@@ -2,8 +2,8 @@ use Rattle.std.proofs.Common.{◌≡◌, ℕ, ◌-◌, length, ap, ap₂, ◌∙
 use Rattle.std.proofs.lemmas.Result.{err_from_is_err_and}
 use Rattle.journal.specs.Calls.{content_answer, content_fill}
 use Rattle.journal.specs.Meaning.{Content, check_size}
-use Rattle.format.specs.Decode.{content_of, offset_of, row_at, size_of}
-use Rattle.format.specs.State.{page_in, vals_in}
+use Rattle.format.specs.Decode.{content_of, offset_of, size_of}
+use Rattle.format.specs.State.{row_in, vals_in}
 use Rattle.format.proofs.Mounting.{sound_well}
 use Rattle.format.proofs.Reading.{a_value, content_inside, no_value}
 use Rattle.pages.proofs.Answering.{reads_value}
@@ -21,7 +21,7 @@ returns-clause-promise c =
     let v = view c.args.self.now.raw in
     let t = c.in_ok-slot.slot in
     let w = v.limits.width in
-    let row = row_at w (page_in v t) c.args.position in
+    let row = row_in v t c.args.position in
     let at : c.offset-offset.result ≡ offset_of w row = cc in
     let size : c.size-size.result ≡ size_of w row = cc in
     let e : size_of w c.row-row.result.bytes.now ≡ size_of w row = cc in
