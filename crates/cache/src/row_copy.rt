@@ -7,7 +7,7 @@ use journal::fault::JournalFault;
 use journal::row::Entry;
 
 /// A row's entry and key, by the row's place.
-#[derive(Clone, Copy)]
+#[derive(Clone, Copy, Debug, PartialEq, Eq)]
 pub struct RowCopy {
     pub(crate) start: u64,
     position: u64,

@@ -3,7 +3,7 @@
 use journal::row::Label;
 
 /// One row: its label, where its key begins among the bytes, its value right behind, and its value's length.
-#[derive(Clone, Copy)]
+#[derive(Clone, Copy, Debug, PartialEq, Eq)]
 pub struct RowRecord {
     pub label: Label,
     pub at: usize,
