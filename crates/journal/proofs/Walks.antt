@@ -1,12 +1,13 @@
 -- A walk by the first start above the last goes through the sections in their order. Assumes nothing.
-use Rattle.std.proofs.Common.{◌≡◌, ℕ, zero, suc, ◌+◌, ◌-◌, ◌^◌, ◌<◌, ◌≤◌, true, false, eqb, ltb, List, [], ◌∷◌, ◌++◌, length, get_or, take, drop, Some, None, Option, sym, refl, ap, ◌∙◌, ⊎_elim, add-one, arith, length-drop}
+use Rattle.std.proofs.Common.{◌≡◌, ℕ, zero, suc, ◌+◌, ◌-◌, ◌^◌, ◌<◌, ◌≤◌, true, false, eqb, ltb, List, [], ◌∷◌, ◌++◌, length, get_or, take, drop, Some, None, Option, unwrap_or, MatchOption, SomeIff, sym, refl, ap, ◌∙◌, ⊎_elim, add-one, arith, length-drop}
 use Rattle.std.proofs.lemmas.Bool.{cond-true, cond-false, lt-ltb, le-ltb, eq-eqb, ne_eqb, cases_lt}
 use Rattle.std.specs.List.{AllByRecursion}
 use Rattle.std.proofs.lemmas.List.{take_more, drop_more}
 use Rattle.std.proofs.ByRecursion.{All-weaker}
 use Rattle.journal.specs.declared.limits.Limits.{Limits}
-use Rattle.journal.specs.Meaning.{Section, Within, rows_of, first_from, Rising}
+use Rattle.journal.specs.Meaning.{Meaning, Section, Within, Lawful, rows_of, first_from, Rising}
 use Rattle.journal.specs.Calls.{kept_from}
+use Rattle.journal.specs.Promises.{TellsFirst}
 
 pub kept_all : (low n : ℕ) (xs : List Section) → Rising low xs → n ≤ low → kept_from xs n ≡ xs
 kept_all low n [] up h = refl
@@ -117,3 +118,24 @@ at_last low n i s l xs up fit h e m =
     let b = kept_none (2 ^ 64) xs (All-weaker (Within l) (λ (x : Section). x.start < 2 ^ 64) (λ x q. q.start) xs fit) in
     let d = drop_end xs (i + 1) (sym w ∙ ap (kept_from xs) t ∙ b) in
     omega arith
+
+pub none_above : (l : Limits) (n : ℕ) (xs : List Section) → AllByRecursion (Within l) xs → n ≡ 2 ^ 64 → kept_from xs n ≡ []
+none_above l n xs fit e = ap (kept_from xs) e ∙ kept_none (2 ^ 64) xs (All-weaker (Within l) (λ (x : Section). x.start < 2 ^ 64) (λ x q. q.start) xs fit)
+
+-- The number to look from: none is left above the last, which is 2 ^ 64 to the walk.
+abbrev pub from_or_end : Option ℕ → ℕ
+from_or_end from = unwrap_or from (2 ^ 64)
+
+pub next_from : (s : ℕ) (r : Option ℕ) → s < 2 ^ 64 → SomeIff r (s + 1 < 2 ^ 64) (s + 1) → from_or_end r ≡ s + 1
+next_from s None low h = omega (arith, h)
+next_from s (Some n) low h = omega (arith, h)
+
+-- What the look for the next start says, where the journal's meaning is m.
+module _ {O J : Type 0} (fits : O → J → Type 0) (meaning : J → Meaning) (j : J) (o : O) (fit : fits o j) (m : Meaning) (same : meaning j ≡ m) where
+  pub comes : (from : Option ℕ) (r : Option ℕ) (s : ℕ) → MatchOption from (r ≡ None) (λ n. TellsFirst fits meaning j n r) → r ≡ Some s → Some s ≡ first_from m.sections (from_or_end from)
+  comes None r s h e = cc
+  comes (Some n) r s h e = sym e ∙ h.answer o fit ∙ ap (λ (k : Meaning). first_from k.sections n) same
+
+  pub stops : (from : Option ℕ) (r : Option ℕ) → Lawful m → MatchOption from (r ≡ None) (λ n. TellsFirst fits meaning j n r) → r ≡ None → kept_from m.sections (from_or_end from) ≡ []
+  stops None r law h e = none_above m.limits (2 ^ 64) m.sections law.within refl
+  stops (Some n) r law h e = first_none n m.sections (ap (λ (k : Meaning). first_from k.sections n) (sym same) ∙ sym (h.answer o fit) ∙ e)

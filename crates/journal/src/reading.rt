@@ -1,6 +1,7 @@
-// Reading a row of any journal as a whole.
+// Reading any journal: a row as a whole, and its sections one after another.
 
-ghost use Rattle.journal.specs.Promises.{ReadsRow};
+ghost use Rattle.std.specs.Prelude.{◌≡◌, None, MatchOption};
+ghost use Rattle.journal.specs.Promises.{TellsFirst, ReadsRow};
 
 use crate::Journal;
 use crate::fault::JournalFault;
@@ -20,4 +21,11 @@ pub fn read_row<J: Journal>(
     let entry = journal.read_entry(start, position, key)?;
     journal.read_value(start, position, value)?;
     Ok(entry)
+}
+
+/// The first kept start at or above `from`; none where there is no such number, as there is none above the highest start.
+pub fn start_from<J: Journal>(journal: &J, from: Option<u64>) -> Option<u64>
+    ensures { MatchOption from (result ≡ None) (λ n. TellsFirst J.Journal.fits J.Journal.meaning journal.now n result) }
+{
+    journal.first_start(from?)
 }

@@ -1,12 +1,10 @@
 -- A walk over the sections that lays one total after another over the front of a slice. Assumes nothing.
-use Rattle.std.proofs.Common.{◌≡◌, ℕ, ◌+◌, ◌^◌, ◌<◌, ◌≤◌, List, [], ◌∷◌, ◌++◌, map, length, take, drop, set, Some, None, Ok, Option, Result, unwrap_or, MatchOption, SomeIff, sym, refl, ap, ◌∙◌, ap₂, arith, length-take}
+use Rattle.std.proofs.Common.{◌≡◌, ℕ, ◌+◌, ◌≤◌, List, [], ◌∷◌, ◌++◌, map, length, take, drop, set, Some, Ok, Result, sym, refl, ap, ◌∙◌, ap₂, arith, length-take}
 use Rattle.std.proofs.lemmas.List.{take_all, map-append, length-map}
-use Rattle.std.proofs.ByRecursion.{All-weaker}
 use Rattle.journal.specs.declared.fault.JournalFault.{JournalFault}
-use Rattle.journal.specs.Meaning.{Meaning, Section, Within, Lawful, cost, rows_of, first_from}
+use Rattle.journal.specs.Meaning.{Meaning, Section, Lawful, cost, rows_of, first_from}
 use Rattle.journal.specs.Calls.{kept_from}
-use Rattle.journal.specs.Promises.{TellsFirst}
-use Rattle.journal.proofs.Walks.{next_taken, kept_all, kept_none, walk, inside, at_none, drop_end}
+use Rattle.journal.proofs.Walks.{next_taken, kept_all, walk, inside, drop_end}
 use Rattle.summary.specs.declared.total.SectionTotal.{SectionTotal}
 use Rattle.summary.specs.Totals.{total_of, laid, Summarises}
 
@@ -27,9 +25,9 @@ pub begun : (m : Meaning) (out : List SectionTotal) → Lawful m → Walked m m 
 begun m out lawful = record { same = refl; rest = kept_all _ 0 _ lawful.rising (omega arith); within = omega arith; laid_so = refl }
 
 -- One section more.
-module _ (m m' : Meaning) (from i s : ℕ) (out out' : List SectionTotal) (lawful : Lawful m) (w : Walked m m' from i out out') (comes : Some s ≡ first_from m'.sections from) where
+module _ (m m' : Meaning) (from i s : ℕ) (out out' : List SectionTotal) (lawful : Lawful m) (w : Walked m m' from i out out') (comes : Some s ≡ first_from m.sections from) where
   first : first_from m.sections from ≡ Some s
-  first = sym (comes ∙ ap (λ (k : Meaning). first_from k.sections from) w.same)
+  first = sym comes
 
   pub went : (m'' : Meaning) (next : List SectionTotal) (rows spent : ℕ) → m'' ≡ m' → rows ≡ length (rows_of m'.sections s)
       → ◌≡◌ {A = Result ℕ JournalFault} (Ok spent) (Ok (cost (rows_of m'.sections s))) → next ≡ set out' i (record { start = s; rows = rows; cost = spent })
@@ -53,39 +51,13 @@ module _ (m m' : Meaning) (from i s : ℕ) (out out' : List SectionTotal) (lawfu
             ∙ ap (λ (ts : List SectionTotal). laid ts out) (sym (ap (map total_of) k.3 ∙ map-append total_of (take i m.sections) (k.0 ∷ [])));
       }
 
--- The three ends: no start is left, no number is left above the last, and no slot is left.
+-- The two ends: no section is left, and no slot is left.
 module _ (m m' : Meaning) (from i : ℕ) (out out' : List SectionTotal) (lawful : Lawful m) (w : Walked m m' from i out out') where
-  pub at_rest : None ≡ first_from m'.sections from → i ≡ length m.sections
-  at_rest e = at_none from i m.sections w.rest w.within (sym (e ∙ ap (λ (k : Meaning). first_from k.sections from) w.same))
-
-  pub at_top : from ≡ 2 ^ 64 → i ≡ length m.sections
-  at_top e =
-      let b = kept_none (2 ^ 64) m.sections (All-weaker (Within m.limits) (λ (x : Section). x.start < 2 ^ 64) (λ x q. q.start) m.sections lawful.within) in
-      let d = drop_end m.sections i (sym w.rest ∙ ap (kept_from m.sections) e ∙ b) in
-      omega (arith, d, w.within)
+  pub at_rest : kept_from m.sections from ≡ [] → i ≡ length m.sections
+  at_rest e = let d = drop_end m.sections i (sym w.rest ∙ e) in omega (arith, d, w.within)
 
   pub at_slots : m.limits.slots ≤ i → i ≡ length m.sections
   at_slots e = omega (arith, e, lawful.slots, w.within)
-
--- The number to look from: none is left above the last, which is 2 ^ 64 to the walk.
-abbrev pub from_or_end : Option ℕ → ℕ
-from_or_end from = unwrap_or from (2 ^ 64)
-
-pub next_from : (s : ℕ) (r : Option ℕ) → s < 2 ^ 64 → SomeIff r (s + 1 < 2 ^ 64) (s + 1) → from_or_end r ≡ s + 1
-next_from s None low h = omega (arith, h)
-next_from s (Some n) low h = omega (arith, h)
-
-module _ {O J : Type 0} (fits : O → J → Type 0) (meaning : J → Meaning) (j : J) (o : O) (fit : fits o j) where
-  -- What the look for the next start says.
-  pub comes : (from : Option ℕ) (r : Option ℕ) (s : ℕ) → MatchOption from (r ≡ None) (λ n. TellsFirst fits meaning j n r) → r ≡ Some s
-      → Some s ≡ first_from (meaning j).sections (from_or_end from)
-  comes None r s h e = cc
-  comes (Some n) r s h e = sym e ∙ h.answer o fit
-
-  pub stops : (m : Meaning) (from : Option ℕ) (r : Option ℕ) (i : ℕ) (out out' : List SectionTotal) → Lawful m → Walked m (meaning j) (from_or_end from) i out out'
-      → MatchOption from (r ≡ None) (λ n. TellsFirst fits meaning j n r) → r ≡ None → i ≡ length m.sections
-  stops m None r i out out' lawful w h e = at_top m _ _ _ _ _ lawful w refl
-  stops m (Some n) r i out out' lawful w h e = at_rest m _ _ _ _ _ lawful w (sym e ∙ h.answer o fit)
 
 -- A walk that came to its end is a summary.
 pub ended : {O J : Type 0} (fits : O → J → Type 0) (meaning : J → Meaning) (j j' : J) (out out' : List SectionTotal) (from i : ℕ)

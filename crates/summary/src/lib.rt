@@ -1,14 +1,14 @@
 // A summary of what any journal keeps: for each section its rows and their cost, read row by row.
 #![tactic(auto)]
 
-ghost use Rattle.std.specs.Prelude.{◌≡◌, None, MatchOption, slice_set};
-ghost use Rattle.journal.specs.Promises.{TellsFirst};
+ghost use Rattle.std.specs.Prelude.{◌≡◌, slice_set};
 ghost use Rattle.summary.specs.Totals.{Adds, Summarises};
 
 pub mod total;
 
 use journal::Journal;
 use journal::fault::JournalFault;
+use journal::reading::start_from;
 use total::SectionTotal;
 
 // A total to its place, where there is one. By index, since of a slice's `get_mut` a proof learns the length alone.
@@ -35,13 +35,6 @@ pub fn section_cost<J: Journal>(journal: &mut J, start: u64) -> Result<u64, Jour
         cost = entry.cost().saturating_add(cost);
     }
     Ok(cost)
-}
-
-// The first kept start at or above `from`; none where there is no such number.
-fn start_from<J: Journal>(journal: &J, from: Option<u64>) -> Option<u64>
-    ensures { MatchOption from (result ≡ None) (λ n. TellsFirst J.Journal.fits J.Journal.meaning journal.now n result) }
-{
-    journal.first_start(from?)
 }
 
 /// The totals of the kept sections by rising start, as many as `out` has places for; the answer is how many are kept.

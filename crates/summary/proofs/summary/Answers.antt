@@ -1,6 +1,7 @@
 use Rattle.std.proofs.Common.{◌≡◌, ◌^◌, ◌<◌, ◌≤◌, sym, ap, ◌∙◌, arith}
 use Rattle.journal.specs.declared.limits.Limits.{Limits}
-use Rattle.summary.proofs.Laying.{begun, went, at_slots, ended, next_from, comes, stops}
+use Rattle.journal.proofs.Walks.{next_from, comes, stops}
+use Rattle.summary.proofs.Laying.{begun, went, at_rest, at_slots, ended}
 use Rattle.summary.proofs.summary.Goals as goal
 
 pub loop-i-init : goal.loop-i-init
@@ -13,7 +14,7 @@ loop-i-preserved g c =
     let low : c.in-Some.start < 2 ^ 64 = omega arith in
     λ o f.
     let i = c.loop-i.invariant o f in
-    let n = comes g.J.Journal.fits g.J.Journal.meaning _ o i.0 c.loop-i.from _ _ c.start_from.ensures c.in-Some.is in (
+    let n = comes g.J.Journal.fits g.J.Journal.meaning _ o i.0 m i.1.same c.loop-i.from _ _ c.start_from.ensures c.in-Some.is in (
       a.fit o i.0,
       rw (next_from c.in-Some.start c.checked_add-from.result low c.checked_add-from.ensures)
           (went m _ _ _ _ _ _ (c.limits-slots.ensures.lawful o f) i.1 n
@@ -22,9 +23,11 @@ loop-i-preserved g c =
 
 pub returns-in_default : goal.returns-in_default
 returns-in_default g c =
+    let m = g.J.Journal.meaning c.args.journal.now in
     ended _ _ _ _ _ _ _ c.loop-i.i (λ o f.
     let i = c.loop-i.invariant o f in
-    (i.0, i.1, stops g.J.Journal.fits g.J.Journal.meaning _ o i.0 _ c.loop-i.from _ _ _ _ (c.limits-slots.ensures.lawful o f) i.1 c.start_from.ensures c.in_default.is))
+    let law = c.limits-slots.ensures.lawful o f in
+    (i.0, i.1, at_rest m _ _ _ _ _ law i.1 (stops g.J.Journal.fits g.J.Journal.meaning _ o i.0 m i.1.same c.loop-i.from _ law c.start_from.ensures c.in_default.is)))
 
 pub returns : goal.returns
 returns g c =

@@ -1,4 +1,5 @@
-use Rattle.summary.proofs.Laying.{Walked, from_or_end}
+use Rattle.journal.proofs.Walks.{from_or_end}
+use Rattle.summary.proofs.Laying.{Walked}
 use Rattle.summary.proofs.summary.Given as goal
 
 abbrev pub invariant-loop-i : goal.invariant-loop-i
