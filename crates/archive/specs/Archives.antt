@@ -5,10 +5,13 @@
 --   Does        a call: what fitted still fits, the answer is one that says allows at the state before, the state after is
 --               the one that next gives, and the translator is the same
 --   Tells       a call that changes nothing at all
+--   home_of     where a number that is to be stored has its section, by section size and floor
 -- An answer is a result together with the buffer afterwards, where there is one.
-use Rattle.std.specs.Prelude.{◌≡◌, ℕ, List}
+use Rattle.std.specs.Prelude.{◌≡◌, ℕ, cond, List, Some, None, Ok, Err, Option, Result, nat_lt}
 use Rattle.journal.specs.Meaning.{Meaning, Lawful}
-use Rattle.rules.specs.State.{State}
+use Rattle.rules.specs.declared.fault.ArchiveFault.{ArchiveFault}
+use Rattle.rules.specs.declared.fault.ArchiveFault.TheVariants.{NotLoaded}
+use Rattle.rules.specs.State.{State, section_of, or_zero}
 use Rattle.index.specs.Slots.{views}
 use Rattle.archive_layout.specs.Fit.{FitBy}
 use Rattle.archive.specs.Parts.{coding_of}
@@ -31,3 +34,7 @@ pub record Does {O J T K X : Type 0} (fits : O → J → Type 0) (meaning : J �
 
 abbrev pub Tells : {O J T K X : Type 0} → (O → J → Type 0) → (J → Meaning) → (T → List ℕ → ℕ) → (T → ℕ → ℕ) → ℕ → Archive J T K → (State → X) → X → Type 0
 Tells {O} fits meaning translated hashed width a says r = (o : O) → Fits fits meaning translated hashed width o a → r ≡ says (state_of meaning a)
+
+abbrev pub home_of : Option ℕ → Option ℕ → ℕ → Result (Option ℕ) ArchiveFault
+home_of None floor n = Err NotLoaded
+home_of (Some l) floor n = Ok (cond (nat_lt n (or_zero floor)) None (Some (section_of l n)))

@@ -1,7 +1,7 @@
 // A load: the rows of the journal go into an index that was empty, by start and position, and the first one that does not
 // belong there refuses it.
 
-ghost use Rattle.std.specs.Prelude.{◌≡◌, ℕ, ◌-◌, ◌≤◌, true, List, Some, Err, MatchResult};
+ghost use Rattle.std.specs.Prelude.{◌≡◌, ℕ, ◌-◌, ◌≤◌, true, List, Some};
 ghost use Rattle.journal.specs.Meaning.{Meaning, Section, Row, Lawful, rows_of, row_at};
 ghost use Rattle.journal.specs.declared.fault.JournalFault.TheVariants as journal;
 ghost use Rattle.rules.specs.declared.fault.ArchiveFault.TheVariants as archive;
@@ -12,9 +12,11 @@ ghost use Rattle.archive_layout.specs.Loads.{IndexesRow, SectionReady, IndexesSe
 ghost use Rattle.archive_layout.specs.Promises.{Reads};
 ghost use Rattle.archive.specs.Parts.{kind_of, coding_of};
 
+use crate::wanted::coded;
 use index::index::Index;
 use journal::Journal;
 use journal::fault::JournalFault;
+use journal::reading::start_from;
 use keys::fault::KeyFault;
 use keys::kind::Key;
 use keys::translator::Translator;
@@ -28,83 +30,75 @@ pub(crate) fn no_room(start: u64) -> ArchiveFault
     ArchiveFault::Journal(JournalFault::NoSlot { section: start })
 }
 
-// One row: its key first, then its section, and then into the index.
-fn index_row<J: Journal, T: Translator, K: Key>(
-    journal: &mut J,
-    translator: &T,
-    key: &mut K,
-    index: &mut Index,
-    size: u64,
-    start: u64,
-    position: u64,
-) -> Result<(), ArchiveFault>
-    ensures { Reads J.Journal.fits J.Journal.meaning journal.old journal.new (λ m. Lawful m → m.limits.width ≡ K.Key.W → (row : Row) → row_at m start position ≡ Some row → (section_of size row.label.number ≡ start → has_room (views index.old) start (row.label.number - start) ≡ true) → IndexesRow (kind_of T.Translator.translated K.Key.W K.Key.flaw translator.now) (coding_of T.Translator.translated T.Translator.hashed translator.now) size start position row (views index.old) (views index.new) result) }
-{
-    let mut buffer = [0u8; 32];
-    let entry = journal.read_entry(start, position, &mut buffer)?;
-    let bytes = &buffer[0..K::width()];
-    if key.read(bytes).is_err() {
-        return Err(ArchiveFault::Key(KeyFault::StoredKey {
-            section: start,
-            position,
-        }));
-    }
-    let number = entry.label.number;
-    if section_of(size, number) != start {
-        return Err(ArchiveFault::WrongSection {
-            section: start,
-            position,
-        });
-    }
-    let code = translator.translate(bytes);
-    let hash = translator.hash(code);
-    if index.note(start, number.saturating_sub(start), code, hash) {
-        Ok(())
-    } else {
-        Err(no_room(start))
-    }
+/// A load under way, with `size` numbers to a section; each row's key bytes are read into `key`.
+pub(crate) struct Loader<'a, T, K> {
+    pub(crate) translator: &'a T,
+    pub(crate) key: &'a mut K,
+    pub(crate) index: &'a mut Index,
+    pub(crate) size: u64,
 }
 
-// The rows of a section, where the sections before it are in the index.
-fn index_section<J: Journal, T: Translator, K: Key>(
-    journal: &mut J,
-    translator: &T,
-    key: &mut K,
-    index: &mut Index,
-    size: u64,
-    start: u64,
-) -> Result<u64, ArchiveFault>
-    ensures { Reads J.Journal.fits J.Journal.meaning journal.old journal.new (λ m. Lawful m → (ys : List Section) → SectionReady (coding_of T.Translator.translated T.Translator.hashed translator.now) m (views index.old) ys size K.Key.W start → IndexesSection (kind_of T.Translator.translated K.Key.W K.Key.flaw translator.now) (coding_of T.Translator.translated T.Translator.hashed translator.now) size start (rows_of m.sections start) ys (views index.new) result) }
-{
-    let rows = journal.row_count(start);
-    for position in 0..rows {
-        index_row::<J, T, K>(journal, translator, key, index, size, start, position)?;
-    }
-    Ok(rows)
-}
-
-/// All sections by rising start, into an index that is empty; the answer is how many rows there are.
-pub(crate) fn index_all<J: Journal, T: Translator, K: Key>(
-    journal: &mut J,
-    translator: &T,
-    key: &mut K,
-    index: &mut Index,
-    size: u64,
-) -> Result<u64, ArchiveFault>
-    ensures { Reads J.Journal.fits J.Journal.meaning journal.old journal.new (λ m. Lawful m → IndexReady m (views index.old) size K.Key.W → IndexesAll (kind_of T.Translator.translated K.Key.W K.Key.flaw translator.now) (coding_of T.Translator.translated T.Translator.hashed translator.now) size m.sections (views index.new) result) }
-{
-    let mut from = 0;
-    let mut count = 0;
-    for turn in 0..16usize {
-        let Some(start) = journal.first_start(from) else {
-            return Ok(count);
-        };
-        let rows = index_section::<J, T, K>(journal, translator, key, index, size, start)?;
-        count = rows.saturating_add(count);
-        if start == u64::MAX {
-            return Ok(count);
+impl<T: Translator, K: Key> Loader<'_, T, K> {
+    // One row: its key first, then its section, and then into the index.
+    fn take_row<J: Journal>(
+        &mut self,
+        journal: &mut J,
+        start: u64,
+        position: u64,
+    ) -> Result<(), ArchiveFault>
+        ensures reads { Reads J.Journal.fits J.Journal.meaning journal.old journal.new (λ m. Lawful m → m.limits.width ≡ K.Key.W → (row : Row) → row_at m start position ≡ Some row → (section_of self.old.size row.label.number ≡ start → has_room (views self.old.index.now) start (row.label.number - start) ≡ true) → IndexesRow (kind_of T.Translator.translated K.Key.W K.Key.flaw self.old.translator.now) (coding_of T.Translator.translated T.Translator.hashed self.old.translator.now) self.old.size start position row (views self.old.index.now) (views self.new.index.now) result) }
+        ensures same { (self.new.translator.now ≡ self.old.translator.now) × (self.new.size ≡ self.old.size) }
+    {
+        let mut buffer = [0u8; 32];
+        let entry = journal.read_entry(start, position, &mut buffer)?;
+        let bytes = &buffer[..K::width()];
+        if self.key.read(bytes).is_err() {
+            return Err(ArchiveFault::Key(KeyFault::StoredKey {
+                section: start,
+                position,
+            }));
         }
-        from = start + 1;
+        let number = entry.label.number;
+        if section_of(self.size, number) != start {
+            return Err(ArchiveFault::WrongSection {
+                section: start,
+                position,
+            });
+        }
+        let offset = number.saturating_sub(start);
+        let noted = self
+            .index
+            .note(start, offset, coded(self.translator, bytes));
+        noted.map_err(|_| no_room(start))
     }
-    Ok(count)
+
+    // The rows of a section, where the sections before it are in the index.
+    fn take_section<J: Journal>(&mut self, journal: &mut J, start: u64) -> Result<u64, ArchiveFault>
+        ensures reads { Reads J.Journal.fits J.Journal.meaning journal.old journal.new (λ m. Lawful m → (ys : List Section) → SectionReady (coding_of T.Translator.translated T.Translator.hashed self.old.translator.now) m (views self.old.index.now) ys self.old.size K.Key.W start → IndexesSection (kind_of T.Translator.translated K.Key.W K.Key.flaw self.old.translator.now) (coding_of T.Translator.translated T.Translator.hashed self.old.translator.now) self.old.size start (rows_of m.sections start) ys (views self.new.index.now) result) }
+        ensures same { (self.new.translator.now ≡ self.old.translator.now) × (self.new.size ≡ self.old.size) }
+    {
+        let rows = journal.row_count(start);
+        for position in 0..rows {
+            self.take_row(journal, start, position)?;
+        }
+        Ok(rows)
+    }
+
+    /// All sections by rising start, into an index that is empty; the answer is how many rows there are.
+    pub(crate) fn take_all<J: Journal>(&mut self, journal: &mut J) -> Result<u64, ArchiveFault>
+        ensures reads { Reads J.Journal.fits J.Journal.meaning journal.old journal.new (λ m. Lawful m → IndexReady m (views self.old.index.now) self.old.size K.Key.W → IndexesAll (kind_of T.Translator.translated K.Key.W K.Key.flaw self.old.translator.now) (coding_of T.Translator.translated T.Translator.hashed self.old.translator.now) self.old.size m.sections (views self.new.index.now) result) }
+        ensures same { (self.new.translator.now ≡ self.old.translator.now) × (self.new.size ≡ self.old.size) }
+    {
+        let mut from = Some(0);
+        let mut count = 0;
+        for turn in 0..16usize {
+            let Some(start) = start_from(journal, from) else {
+                return Ok(count);
+            };
+            let rows = self.take_section(journal, start)?;
+            count = rows.saturating_add(count);
+            from = start.checked_add(1);
+        }
+        Ok(count)
+    }
 }

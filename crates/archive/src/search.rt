@@ -1,16 +1,19 @@
-// The least bearer of a key behind a place, by number and then position: the one call that gets, questions and listings by
-// key are made of.
+// A search for a key: its least bearer behind a place, by number and then position, the one call that gets, questions and
+// listings by key are made of.
 
-ghost use Rattle.std.specs.Prelude.{◌≡◌, ℕ, ◌%◌, ◌^◌, ◌<◌, List, length, if◌then◌else◌, Some, None};
+ghost use Rattle.std.specs.Prelude.{◌≡◌, ℕ, ◌%◌, ◌^◌, ◌<◌, List, length, if◌then◌else◌, Some, None, MatchOption};
 ghost use Rattle.journal.specs.Meaning.{Meaning, Row, Lawful, rows_of, row_at};
 ghost use Rattle.rules.specs.State.{filed, records_of, those};
 ghost use Rattle.index_layout.specs.Views.{view_at};
+ghost use Rattle.index_layout.specs.Held.{FirstFrom};
 ghost use Rattle.index.specs.Slots.{views};
 ghost use Rattle.archive_layout.specs.Fit.{Coding, full_view};
 ghost use Rattle.archive_layout.specs.Walks.{filed_at};
-ghost use Rattle.archive_layout.specs.Keys.{sought, least, least_from, place_in, spot_in, lower, is_after, start_behind, Coded};
-ghost use Rattle.archive_layout.specs.Promises.{Reads, bearer_of, Known};
+ghost use Rattle.archive_layout.specs.Keys.{sought, least, least_from, place_in, spot_in, lower, start_behind, Coded};
+ghost use Rattle.archive_layout.specs.Promises.{Reads, bearer_of};
+ghost use Rattle.archive.specs.Searches.{Knows};
 
+use crate::wanted::Wanted;
 use archive_layout::spot::Spot;
 use index::handle::unpack;
 use index::index::Index;
@@ -35,21 +38,10 @@ pub(crate) fn bearer<J: Journal>(
     let Ok(entry) = journal.read_entry(start, position, &mut buffer) else {
         return None;
     };
-    if same_bytes(&buffer[0..key.len()], key) {
+    if same_bytes(&buffer[..key.len()], key) {
         Some(entry.label.number)
     } else {
         None
-    }
-}
-
-// Whether a place comes behind another, or there is none that it has to.
-fn is_behind(after: Option<Place>, place: Place) -> bool
-    ensures { result ≡ is_after after place }
-{
-    match after {
-        Some(a) => a.number < place.number
-            || (a.number == place.number && a.position < place.position),
-        None => true,
     }
 }
 
@@ -57,10 +49,7 @@ fn is_behind(after: Option<Place>, place: Place) -> bool
 fn nearer(place: Place, best: Option<Place>) -> Option<Place>
     ensures { result ≡ Some (lower place best) }
 {
-    match best {
-        Some(b) if b.number < place.number => Some(b),
-        _ => Some(place),
-    }
+    best.filter(|b| b.number < place.number).or(Some(place))
 }
 
 // One candidate more: the best of it and those at higher positions.
@@ -78,85 +67,84 @@ fn better<J: Journal>(
         return best;
     };
     let place = Place { number, position };
-    if is_behind(after, place) {
+    if after.is_none_or(|a| a < place) {
         nearer(place, best)
     } else {
         best
     }
 }
 
-// The least bearer of one section, whose slot is given with its start.
-fn least_in<J: Journal>(
-    journal: &mut J,
-    index: &Index,
-    slot: usize,
-    start: u64,
-    key: &[u8],
-    code: u64,
-    hash: u64,
-    after: Option<Place>,
-) -> Option<Place>
-    ensures { Reads J.Journal.fits J.Journal.meaning journal.old journal.new (λ m. Lawful m → (k : Coding) → Coded k m key.now code hash → view_at (views index.now) slot ≡ full_view k start (rows_of m.sections start) → result ≡ place_in (least (those (sought key.now after) (filed start 0 (rows_of m.sections start))))) }
-{
-    let mut best = None;
-    let mut at = index.newest(slot, code, hash);
-    while let Some(handle) = at {
-        let (_, position) = unpack(handle);
-        best = better(journal, start, position, key, after, best);
-        at = index.older(handle, code, hash);
-    }
-    best
+/// Through the index of a loaded archive, with `size` numbers to a section.
+#[derive(Clone, Copy)]
+pub(crate) struct Search<'a> {
+    pub(crate) index: &'a Index,
+    pub(crate) size: u64,
+    pub(crate) wanted: Wanted<'a>,
 }
 
-// The least bearer of a key behind a place, in the sections that start at or above `from`.
-fn least_bearer<J: Journal>(
-    journal: &mut J,
-    index: &Index,
-    from: u64,
-    key: &[u8],
-    code: u64,
-    hash: u64,
-    after: Option<Place>,
-) -> Option<Spot>
-    ensures { Reads J.Journal.fits J.Journal.meaning journal.old journal.new (λ m. (k : Coding) (width l : ℕ) → Known k width l m (views index.now) key.now code hash → result ≡ spot_in (least_from (sought key.now after) m.sections from)) }
-{
-    let mut from = from;
-    for turn in 0..16usize {
-        let Some((slot, start)) = index.first_from(from) else {
-            return None;
-        };
-        if let Some(place) = least_in(journal, index, slot, start, key, code, hash, after) {
-            return Some(Spot { start, place });
+impl Search<'_> {
+    // The first slot whose section starts at or above `from`, with the start; none where there is no such number.
+    fn slot_from(&self, from: Option<u64>) -> Option<(usize, u64)>
+        ensures { MatchOption from (result ≡ None) (λ n. FirstFrom (views self.now.index.now) n result) }
+    {
+        self.index.first_from(from?)
+    }
+
+    // The least bearer of one section, whose slot is given with its start.
+    fn least_in<J: Journal>(
+        &self,
+        journal: &mut J,
+        slot: usize,
+        start: u64,
+        after: Option<Place>,
+    ) -> Option<Place>
+        ensures { Reads J.Journal.fits J.Journal.meaning journal.old journal.new (λ m. Lawful m → (k : Coding) → Coded k m self.now.wanted.key.now self.now.wanted.coded.code self.now.wanted.coded.hash → view_at (views self.now.index.now) slot ≡ full_view k start (rows_of m.sections start) → result ≡ place_in (least (those (sought self.now.wanted.key.now after) (filed start 0 (rows_of m.sections start))))) }
+    {
+        let Wanted { key, coded } = self.wanted;
+        let mut best = None;
+        let mut at = self.index.newest(slot, coded);
+        while let Some(handle) = at {
+            let (_, position) = unpack(handle);
+            best = better(journal, start, position, key, after, best);
+            at = self.index.older(handle, coded);
         }
-        if start == u64::MAX {
-            return None;
+        best
+    }
+
+    // The least bearer behind a place, in the sections that start at or above `from`.
+    fn least_bearer<J: Journal>(
+        &self,
+        journal: &mut J,
+        from: u64,
+        after: Option<Place>,
+    ) -> Option<Spot>
+        ensures { Reads J.Journal.fits J.Journal.meaning journal.old journal.new (λ m. (k : Coding) (width : ℕ) → Knows k width m self.now → result ≡ spot_in (least_from (sought self.now.wanted.key.now after) m.sections from)) }
+    {
+        let mut from = Some(from);
+        for turn in 0..16usize {
+            let (slot, start) = self.slot_from(from)?;
+            if let Some(place) = self.least_in(journal, slot, start, after) {
+                return Some(Spot { start, place });
+            }
+            from = start.checked_add(1);
         }
-        from = start + 1;
+        None
     }
-    None
-}
 
-// Where a search behind a place may begin: nothing behind it lies in an earlier section.
-fn begin(size: u64, after: Option<Place>) -> u64
-    ensures { result ≡ start_behind size after }
-{
-    match after {
-        Some(place) => section_of(size, place.number),
-        None => 0,
+    // Where a search behind a place may begin: nothing behind it lies in an earlier section.
+    fn start_behind(&self, after: Option<Place>) -> u64
+        ensures { result ≡ start_behind self.now.size after }
+    {
+        match after {
+            Some(place) => section_of(self.size, place.number),
+            None => 0,
+        }
     }
-}
 
-/// The least bearer of a key behind a place, of all that there are.
-pub(crate) fn next_bearer<J: Journal>(
-    journal: &mut J,
-    index: &Index,
-    size: u64,
-    key: &[u8],
-    code: u64,
-    hash: u64,
-    after: Option<Place>,
-) -> Option<Spot>
-    ensures { Reads J.Journal.fits J.Journal.meaning journal.old journal.new (λ m. (k : Coding) (width : ℕ) → Known k width size m (views index.now) key.now code hash → result ≡ spot_in (least (those (sought key.now after) (records_of m.sections)))) }
-{
-    least_bearer(journal, index, begin(size, after), key, code, hash, after)
+    /// The least bearer of the key behind a place, of all that there are.
+    pub(crate) fn next<J: Journal>(&self, journal: &mut J, after: Option<Place>) -> Option<Spot>
+        ensures { Reads J.Journal.fits J.Journal.meaning journal.old journal.new (λ m. (k : Coding) (width : ℕ) → Knows k width m self.now → result ≡ spot_in (least (those (sought self.now.wanted.key.now after) (records_of m.sections)))) }
+    {
+        self.least_bearer(journal, self.start_behind(after), after)
+    }
 }

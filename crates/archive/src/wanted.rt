@@ -1,34 +1,39 @@
-// A key as searches want it: its bytes, translated key and hash.
+// A key as searches want it: its bytes, and its translated key with the hash.
 
-ghost use Rattle.std.specs.Prelude.{◌≡◌, ◌≤◌, take};
+ghost use Rattle.std.specs.Prelude.{◌≡◌};
 
+use index::key_code::KeyCode;
 use keys::kind::Key;
 use keys::translator::Translator;
 
-/// The bytes are the first `width` ones.
-#[derive(Drop)]
-pub(crate) struct Wanted {
-    pub(crate) bytes: [u8; 32],
-    pub(crate) width: usize,
-    pub(crate) code: u64,
-    pub(crate) hash: u64,
-}
-
-pub(crate) fn coded<T: Translator, K: Key>(translator: &T, key: &K) -> Wanted
-    ensures bytes { take result.width result.bytes ≡ K.Key.bytes key.now }
-    ensures narrow { result.width ≤ 32 }
-    ensures code { result.code ≡ T.Translator.translated translator.now (K.Key.bytes key.now) }
+/// What a translator makes of key bytes.
+pub(crate) fn coded<T: Translator>(translator: &T, key: &[u8]) -> KeyCode
+    ensures code { result.code ≡ T.Translator.translated translator.now key.now }
     ensures hash { result.hash ≡ T.Translator.hashed translator.now result.code }
 {
-    let mut bytes = [0u8; 32];
-    key.copy_to(&mut bytes);
-    let width = K::width();
-    let code = translator.translate(&bytes[0..width]);
-    let hash = translator.hash(code);
-    Wanted {
-        bytes,
-        width,
+    let code = translator.translate(key);
+    KeyCode {
         code,
-        hash,
+        hash: translator.hash(code),
+    }
+}
+
+#[derive(Clone, Copy, Debug, PartialEq, Eq)]
+pub(crate) struct Wanted<'a> {
+    pub(crate) key: &'a [u8],
+    pub(crate) coded: KeyCode,
+}
+
+impl<'a> Wanted<'a> {
+    pub(crate) fn new<T: Translator, K: Key>(translator: &T, key: &'a K) -> Wanted<'a>
+        ensures key { result.key.now ≡ K.Key.bytes key.now }
+        ensures code { result.coded.code ≡ T.Translator.translated translator.now (K.Key.bytes key.now) }
+        ensures hash { result.coded.hash ≡ T.Translator.hashed translator.now result.coded.code }
+    {
+        let key = key.as_bytes();
+        Wanted {
+            key,
+            coded: coded(translator, key),
+        }
     }
 }

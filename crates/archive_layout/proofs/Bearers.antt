@@ -1,16 +1,13 @@
 -- A row read and held against a key. Assumes nothing.
-use Rattle.std.proofs.Common.{◌≡◌, ℕ, true, false, cond, ◌&&◌, ◌⊎◌, List, ◌++◌, length, take, drop, Some, None, Ok, Option, sym, ap, ◌∙◌, inl, inr, arith}
+use Rattle.std.proofs.Common.{◌≡◌, ℕ, true, false, ◌⊎◌, List, ◌++◌, length, take, drop, Some, None, Ok, sym, ap, ◌∙◌, inl, inr}
 use Rattle.std.proofs.lemmas.List.{take_at}
 use Rattle.std.proofs.lemmas.Bool.{cond-true, cond-false, cases_Bool, le-ltb}
 use Rattle.journal.specs.declared.row.Entry.{Entry}
 use Rattle.journal.specs.Meaning.{Meaning, Row, Lawful, row_at}
 use Rattle.journal.specs.Calls.{entry_of, entry_fill, entry_read, entry_buffer}
 use Rattle.journal.proofs.Rows.{entry_found, key_width}
-use Rattle.rules.specs.declared.answer.Place.{Place}
 use Rattle.rules.specs.State.{same_bytes}
 use Rattle.law.proofs.Tests.{same_as, as_same}
-use Rattle.archive_layout.specs.Walks.{filed_at}
-use Rattle.archive_layout.specs.Keys.{is_after, is_behind, sought, lower}
 use Rattle.archive_layout.specs.Promises.{bearer_of}
 
 -- An entry that was read, with the buffer after it: the row is there, and its key is in front.
@@ -32,11 +29,7 @@ read_row m s p before after e law answer buffer =
       front = λ n q. ap (take n) is ∙ take_at f.0.key (drop m.limits.width before) n (w ∙ sym q);
     }
 
-module _ (m : Meaning) (s p : ℕ) (key before after : List ℕ) (e : Entry) (n : ℕ) (law : Lawful m) (wide : length key ≡ m.limits.width) (long : n ≡ length key)
-    (answer : Ok e ≡ entry_read m s p (length before)) (buffer : after ≡ entry_buffer m s p before) where
-  r : ReadRow m s p e after
-  r = read_row m s p before after e law answer buffer
-
+module _ {m : Meaning} {s p : ℕ} {e : Entry} {after : List ℕ} (r : ReadRow m s p e after) {n : ℕ} {key : List ℕ} (wide : length key ≡ m.limits.width) (long : n ≡ length key) where
   pub bearer_yes : take n after ≡ key → Some e.label.number ≡ bearer_of (row_at m s p) key
   bearer_yes same =
       sym (ap (λ o. bearer_of o key) r.there ∙ cond-true _ _ _ (same_as r.row.key key (sym (r.front n (long ∙ wide)) ∙ same)) ∙ ap (λ (x : Entry). Some x.label.number) r.entry)
@@ -48,24 +41,3 @@ module _ (m : Meaning) (s p : ℕ) (key before after : List ℕ) (e : Entry) (n 
       by : (same_bytes r.row.key key ≡ true) ⊎ (same_bytes r.row.key key ≡ false) → bearer_of (Some r.row) key ≡ None
       by (inl t) = absurd (other (r.front n (long ∙ wide) ∙ as_same r.row.key key t))
       by (inr t) = cond-false _ _ _ t
-
--- What is found of a candidate.
-module _ (s p : ℕ) (key : List ℕ) (a best : Option Place) (row : Row) where
-  pub none_better : None ≡ bearer_of (Some row) key → best ≡ cond (sought key a (filed_at s p row)) (Some (lower (record { number = row.label.number; position = p }) best)) best
-  none_better e = by (cases_Bool (same_bytes row.key key))
-    where
-      by : (same_bytes row.key key ≡ true) ⊎ (same_bytes row.key key ≡ false) → best ≡ cond (sought key a (filed_at s p row)) (Some (lower (record { number = row.label.number; position = p }) best)) best
-      by (inl t) = let z : ◌≡◌ {A = Option ℕ} None (Some row.label.number) = e ∙ cond-true _ _ _ t in let w : ◌≡◌ {A = ℕ} 0 1 = cc in absurd (omega arith)
-      by (inr t) = sym (cond-false _ _ _ (ap (λ x. x && is_behind a (filed_at s p row)) t))
-
-  pub some_better : (number : ℕ) (r : Option Place) → Some number ≡ bearer_of (Some row) key → r ≡ cond (is_after a (record { number = number; position = p })) (Some (lower (record { number = number; position = p }) best)) best
-      → r ≡ cond (sought key a (filed_at s p row)) (Some (lower (record { number = row.label.number; position = p }) best)) best
-  some_better number r e is = by (cases_Bool (same_bytes row.key key))
-    where
-      by : (same_bytes row.key key ≡ true) ⊎ (same_bytes row.key key ≡ false) → r ≡ cond (sought key a (filed_at s p row)) (Some (lower (record { number = row.label.number; position = p }) best)) best
-      by (inl t) =
-          let z : ◌≡◌ {A = Option ℕ} (Some number) (Some row.label.number) = e ∙ cond-true _ _ _ t in
-          let q : number ≡ row.label.number = cc in
-          is ∙ ap (λ i. cond (is_after a (record { number = i; position = p })) (Some (lower (record { number = i; position = p }) best)) best) q
-          ∙ ap (λ x. cond (x && is_behind a (filed_at s p row)) (Some (lower (record { number = row.label.number; position = p }) best)) best) (sym t)
-      by (inr t) = let z : ◌≡◌ {A = Option ℕ} (Some number) None = e ∙ cond-false _ _ _ t in let w : ◌≡◌ {A = ℕ} 0 1 = cc in absurd (omega arith)

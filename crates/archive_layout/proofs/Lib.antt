@@ -1,3 +1,4 @@
+pub mod Reading
 pub mod Sums
 pub mod Fits
 pub mod Places

@@ -4,7 +4,7 @@ use Rattle.std.specs.List.{AllByRecursion}
 use Rattle.std.proofs.lemmas.List.{take_all, take-append-drop}
 use Rattle.journal.specs.Meaning.{Meaning, Section, Row, Lawful, Within, Rising, rows_of, first_from}
 use Rattle.journal.specs.Calls.{or_fault, kept_from}
-use Rattle.journal.proofs.Walks.{Leads, first_some, kept_all, walk, inside, next_taken, at_none, drop_end, drop_some}
+use Rattle.journal.proofs.Walks.{Leads, first_some, kept_all, walk, inside, next_taken, drop_end, drop_some}
 use Rattle.rules.specs.declared.fault.ArchiveFault.{ArchiveFault}
 use Rattle.rules.specs.State.{Kind, filed, records_of}
 use Rattle.rules.specs.Calls.{row_fault}
@@ -14,7 +14,7 @@ use Rattle.archive_layout.specs.Loads.{with_part, SectionReady, IndexesSection, 
 use Rattle.archive_layout.proofs.Sums.{SomeRows}
 use Rattle.archive_layout.proofs.Fits.{small, some_rows, ok_none, err_some}
 use Rattle.std.proofs.lemmas.Bool.{cond_both}
-use Rattle.archive_layout.proofs.Sections.{none_above, first_rows}
+use Rattle.archive_layout.proofs.Sections.{first_rows}
 use Rattle.archive_layout.proofs.Counting.{length_filed, rising_weaker}
 use Rattle.archive_layout.proofs.Searches.{records_most}
 use Rattle.archive_layout.proofs.Loads.{first_fault, fault-++, records-++}
@@ -48,8 +48,8 @@ pub record LoadedTo (kind : Kind) (k : Coding) (l : ℕ) (m : Meaning) (vs : Lis
   pub none : row_fault kind l (records_of (take i m.sections)) ≡ None
   pub counted : count ≡ length (records_of (take i m.sections))
 
-pub load_begins : (kind : Kind) (k : Coding) (l width : ℕ) (m : Meaning) (vs : List View) → Lawful m → IndexReady m vs l width → LoadedTo kind k l m vs 0 0 0
-load_begins kind k l width m vs law ready = record {
+pub load_begins : (kind : Kind) (k : Coding) {l width : ℕ} {m : Meaning} {vs : List View} → Lawful m → IndexReady m vs l width → LoadedTo kind k l m vs 0 0 0
+load_begins kind k {m = m} law ready = record {
   rest = kept_all m.floor 0 m.sections law.rising (omega arith);
   within = omega arith;
   agree = ready.empty;
@@ -57,7 +57,7 @@ load_begins kind k l width m vs law ready = record {
   counted = refl;
 }
 
-module _ (kind : Kind) (k : Coding) (l width : ℕ) (m : Meaning) (begun vs : List View) (from i count : ℕ) (law : Lawful m) (ready : IndexReady m begun l width) (to : LoadedTo kind k l m vs from i count) where
+module _ {kind : Kind} {k : Coding} {l width : ℕ} {m : Meaning} {begun vs : List View} {from i count : ℕ} (law : Lawful m) (ready : IndexReady m begun l width) (to : LoadedTo kind k l m vs from i count) where
   whole : i ≡ length m.sections → IndexesAll kind k l m.sections vs (Ok count)
   whole e =
       let all = take_all i m.sections (omega arith) in
@@ -66,11 +66,8 @@ module _ (kind : Kind) (k : Coding) (l width : ℕ) (m : Meaning) (begun vs : Li
         agree = λ _. subst (λ ys. Agree k vs ys) all to.agree;
       }
 
-  pub load_rest : None ≡ first_from m.sections from → IndexesAll kind k l m.sections vs (Ok count)
-  load_rest e = whole (at_none from i m.sections to.rest to.within (sym e))
-
-  pub load_top : from ≡ 2 ^ 64 → IndexesAll kind k l m.sections vs (Ok count)
-  load_top e = let d = drop_end m.sections i (sym to.rest ∙ none_above m.limits m.sections from law.within e) in whole (let w = to.within in omega arith)
+  pub load_end : kept_from m.sections from ≡ [] → IndexesAll kind k l m.sections vs (Ok count)
+  load_end e = let d = drop_end m.sections i (sym to.rest ∙ e) in whole (let w = to.within in omega arith)
 
   pub load_slots : 16 ≤ i → IndexesAll kind k l m.sections vs (Ok count)
   load_slots h = whole (let w = to.within in let a = law.slots in let b = (small m.limits ready.limits).slots in omega arith)
@@ -122,7 +119,7 @@ module _ (kind : Kind) (k : Coding) (l width : ℕ) (m : Meaning) (begun vs : Li
     records_next : records_of (take (i + 1) m.sections) ≡ records_of (take i m.sections) ++ filed s 0 (rows_of m.sections s)
     records_next = ap records_of taken ∙ records-++ (take i m.sections) (record { start = s; rows = rows_of m.sections s } ∷ []) ∙ ap (λ ys. records_of (take i m.sections) ++ ys) (append-nil (filed s 0 (rows_of m.sections s)))
 
-    module _ (vs' : List View) (r : Result ℕ ArchiveFault) (sec : IndexesSection kind k l s (rows_of m.sections s) (take i m.sections) vs' r) where
+    module _ {vs' : List View} {r : Result ℕ ArchiveFault} (sec : IndexesSection kind k l s (rows_of m.sections s) (take i m.sections) vs' r) where
       pub load_more : (n count' : ℕ) → r ≡ Ok n → count' ≡ min (n + count) (2 ^ 64 - 1) → LoadedTo kind k l m vs' (s + 1) (i + 1) count'
       load_more n count' e sum =
           let f = ok_none (row_fault kind l (filed s 0 (rows_of m.sections s))) (length (rows_of m.sections s)) n (sym sec.answer ∙ e) in

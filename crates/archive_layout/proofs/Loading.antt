@@ -1,12 +1,12 @@
 -- One row of a load, by what was read of it. Assumes nothing.
-use Rattle.std.proofs.Common.{◌≡◌, ℕ, ◌-◌, Bool, true, false, not, eqb, List, [], ◌∷◌, length, take, is_err, Some, None, Ok, Err, Option, Result, sym, ap, ◌∙◌, subst, arith}
+use Rattle.std.proofs.Common.{◌≡◌, ℕ, ◌-◌, Bool, true, false, not, eqb, List, [], ◌∷◌, take, is_err, Some, None, Ok, Err, Option, Result, sym, ap, ◌∙◌, subst, arith}
 use Rattle.std.proofs.lemmas.Bool.{cond-true, cond-false, eq-eqb, ne_eqb}
 use Rattle.keys.specs.declared.fault.KeyFault.{KeyFault}
 use Rattle.keys.specs.declared.fault.KeyFault.TheVariants.{StoredKey}
 use Rattle.keys.specs.Reading.{read_answer}
 use Rattle.journal.specs.declared.row.Entry.{Entry}
-use Rattle.journal.specs.Meaning.{Meaning, Row, Lawful, row_at}
-use Rattle.journal.specs.Calls.{or_fault, entry_read, entry_buffer}
+use Rattle.journal.specs.Meaning.{Meaning, Row, row_at}
+use Rattle.journal.specs.Calls.{or_fault}
 use Rattle.rules.specs.declared.fault.ArchiveFault.{ArchiveFault}
 use Rattle.rules.specs.declared.fault.ArchiveFault.TheVariants.{WrongSection, Key}
 use Rattle.rules.specs.State.{Kind, section_of}
@@ -16,17 +16,13 @@ use Rattle.index_layout.specs.Held.{Noted}
 use Rattle.archive_layout.specs.Fit.{Coding, code_of, bucket_by}
 use Rattle.archive_layout.specs.Walks.{filed_at}
 use Rattle.archive_layout.specs.Loads.{IndexesRow}
-use Rattle.archive_layout.proofs.Bearers.{ReadRow, read_row}
+use Rattle.archive_layout.proofs.Bearers.{ReadRow}
 
 key_of : (o : Option ℕ) (r : Result Unit KeyFault) (b : Bool) → r ≡ read_answer o → is_err r ≡ b → is_key o ≡ not b
 key_of None r b e f = ap not (sym (ap is_err e) ∙ f)
 key_of (Some p) r b e f = ap not (sym (ap is_err e) ∙ f)
 
-module _ (kind : Kind) (k : Coding) (m : Meaning) (l s p n : ℕ) (before after : List ℕ) (e : Entry) (row : Row) (law : Lawful m) (wide : n ≡ m.limits.width)
-    (answer : Ok e ≡ entry_read m s p (length before)) (buffer : after ≡ entry_buffer m s p before) (there : row_at m s p ≡ Some row) where
-  r : ReadRow m s p e after
-  r = read_row m s p before after e law answer buffer
-
+module _ (kind : Kind) (k : Coding) (l : ℕ) {m : Meaning} {s p : ℕ} {e : Entry} {after : List ℕ} (r : ReadRow m s p e after) {n : ℕ} {row : Row} (wide : n ≡ m.limits.width) (there : row_at m s p ≡ Some row) where
   same : r.row ≡ row
   same = let z : ◌≡◌ {A = Option Row} (Some r.row) (Some row) = sym r.there ∙ there in cc
 

@@ -173,11 +173,11 @@ pub record PartIn (kind : Kind) (k : Coding) (l s : ℕ) (rows : List Row) (ys :
   pub agree : Agree k vs (with_part ys s (take p rows))
   pub none : row_fault kind l (filed s 0 (take p rows)) ≡ None
 
-module _ (kind : Kind) (k : Coding) (m : Meaning) (ys : List Section) (l width s : ℕ) (before' : List View) (ready : SectionReady k m before' ys l width s) where
+module _ (kind : Kind) {k : Coding} {m : Meaning} {ys : List Section} {l width s : ℕ} {before' : List View} (ready : SectionReady k m before' ys l width s) where
   pub part_none : PartIn kind k l s (rows_of m.sections s) ys before' 0
   part_none = record { agree = ready.agree; none = refl }
 
-  module _ (p : ℕ) (vs : List View) (apart : Apart vs) (part : PartIn kind k l s (rows_of m.sections s) ys vs p) (lt : p < length (rows_of m.sections s)) where
+  module _ {p : ℕ} {vs : List View} (apart : Apart vs) (part : PartIn kind k l s (rows_of m.sections s) ys vs p) (lt : p < length (rows_of m.sections s)) where
     next : (r : Row) × (slice_get (rows_of m.sections s) p ≡ Some r)
     next = nth_there (rows_of m.sections s) p lt
 
@@ -192,7 +192,7 @@ module _ (kind : Kind) (k : Coding) (m : Meaning) (ys : List Section) (l width s
     unfolding part_row
     part_room = room_in k m ys l width s p before' vs next.0 ready apart next.1 part.agree
 
-    module _ (vs' : List View) (r : Result Unit ArchiveFault) (row : IndexesRow kind k l s p part_row vs vs' r) where
+    module _ {vs' : List View} {r : Result Unit ArchiveFault} (row : IndexesRow kind k l s p part_row vs vs' r) where
       pub part_more : r ≡ Ok tt → PartIn kind k l s (rows_of m.sections s) ys vs' (p + 1)
       unfolding part_row
       part_more e =
@@ -212,9 +212,9 @@ module _ (kind : Kind) (k : Coding) (m : Meaning) (ys : List Section) (l width s
     agree = λ none. (let z : ◌≡◌ {A = Option ArchiveFault} (Some f) None = sym e ∙ none in let w : ◌≡◌ {A = ℕ} 0 1 = cc in absurd (omega arith));
   }
 
-  pub section_in : (p n : ℕ) (vs' : List View) → PartIn kind k l s (rows_of m.sections s) ys vs' p → length (rows_of m.sections s) ≤ p → n ≡ length (rows_of m.sections s)
+  pub section_in : {p : ℕ} {vs' : List View} (n : ℕ) → PartIn kind k l s (rows_of m.sections s) ys vs' p → length (rows_of m.sections s) ≤ p → n ≡ length (rows_of m.sections s)
       → IndexesSection kind k l s (rows_of m.sections s) ys vs' (Ok n)
-  section_in p n vs' part le count =
+  section_in {p = p} {vs' = vs'} n part le count =
       let all = take_all p (rows_of m.sections s) le in
       record {
         answer = ap (λ i. Ok i) count ∙ ap (λ o. or_fault o (length (rows_of m.sections s))) (sym (ap (λ rs. row_fault kind l (filed s 0 rs)) (sym all) ∙ part.none));

@@ -1,5 +1,5 @@
 -- A put, by the rules, on each of its ways. Assumes nothing.
-use Rattle.std.proofs.Common.{◌≡◌, ℕ, ◌-◌, ◌<◌, ◌≤◌, Bool, true, false, not, ◌&&◌, List, is_some, Some, None, Ok, Err, Result, sym, ap, ◌∙◌}
+use Rattle.std.proofs.Common.{◌≡◌, ℕ, ◌-◌, ◌<◌, ◌≤◌, Bool, true, false, List, is_some, Some, None, Ok, Err, Result, sym, ap, ◌∙◌}
 use Rattle.std.proofs.lemmas.Bool.{cond-true, cond-false, lt-ltb, le-ltb, or_left, or_right, or_from}
 use Rattle.journal.specs.declared.row.Label.{Label}
 use Rattle.journal.specs.declared.fault.JournalFault.{JournalFault}
@@ -54,7 +54,7 @@ module _ (s : State) (multi : Bool) (label : Label) (key value : List ℕ) where
         (ap (with_journal s) (em ∙ ap (λ i. appended s.journal i label key value) home) ∙ sym (cond-false _ _ _ (or_from _ _ t there)))
 
 -- The test by the index is the test of the rules.
-pub there_by : (k : Coding) (width l : ℕ) (s : State) (vs : List View) (multi b : Bool) (n start offset : ℕ) → Fit k width l s.journal vs → Lawful s.journal → start ≡ section_of l n → offset ≡ n - start
-    → b ≡ (not multi && is_some (first_in (found vs start) offset)) → is_there multi s n ≡ b
-there_by k width l s vs multi b n start offset fit law home near e =
-    ap (λ x. not multi && x) (there_is k width l s.journal vs n start fit law (sym home)) ∙ ap (λ i. not multi && is_some (first_in (found vs start) i)) (sym near) ∙ sym e
+pub there_by : {k : Coding} {width l : ℕ} {vs : List View} (s : State) (b : Bool) (n start offset : ℕ) → Fit k width l s.journal vs → Lawful s.journal → start ≡ section_of l n → offset ≡ n - start
+    → b ≡ is_some (first_in (found vs start) offset) → is_there false s n ≡ b
+there_by {k = k} {width = width} {l = l} {vs = vs} s b n start offset fit law home near e =
+    there_is k width l s.journal vs n start fit law (sym home) ∙ ap (λ i. is_some (first_in (found vs start) i)) (sym near) ∙ sym e

@@ -1,10 +1,10 @@
 -- The first bearer of a key over all sections, by rising start. Assumes nothing.
-use Rattle.std.proofs.Common.{◌≡◌, ℕ, ◌+◌, ◌<◌, ◌≤◌, Bool, false, eqb, ltb, ◌⊎◌, List, [], ◌∷◌, ◌++◌, Some, None, sym, refl, ap, ◌∙◌, subst, inl, inr, arith}
+use Rattle.std.proofs.Common.{◌≡◌, ℕ, ◌+◌, ◌<◌, ◌≤◌, Bool, false, eqb, ltb, ◌⊎◌, List, [], ◌∷◌, ◌++◌, Some, sym, refl, ap, ◌∙◌, subst, inl, inr, arith}
 use Rattle.std.specs.List.{AllByRecursion}
 use Rattle.std.proofs.lemmas.Bool.{cond-true, cond-false, cases_lt, lt-ltb, le-ltb, ne_eqb, and_left, and_right, or_from}
 use Rattle.journal.specs.Meaning.{Section, Row, rows_of, first_from, Rising}
 use Rattle.journal.specs.Calls.{kept_from}
-use Rattle.journal.proofs.Walks.{first_some, first_none}
+use Rattle.journal.proofs.Walks.{first_some}
 use Rattle.rules.specs.declared.answer.Place.{Place}
 use Rattle.rules.specs.State.{Record, section_of, number_of, filed, records_of, those}
 use Rattle.rules.specs.Calls.{Among}
@@ -64,9 +64,6 @@ module _ (l low : ℕ) (xs : List Section) (some : 0 < l) (up : Rising low xs) (
         where
           filed_home : (s : ℕ) (x : Record) → Among x (filed s 0 (rows_of xs s)) → section_of l (number_of x) ≡ s
           filed_home s x a = (filed_lies l s 0 (rows_of xs s) x (homed_rows l s xs homed) a).home ∙ filed_start s 0 (rows_of xs s) x a
-
-  pub least_end : (n : ℕ) → first_from xs n ≡ None → least_from t xs n ≡ None
-  least_end n e = ap (λ ys. least (those t (records_of ys))) (first_none n xs e)
 
 -- What comes behind a place lies in its section or behind it, so that a search may begin there.
 not_behind : (a : Place) (r : Record) → number_of r < a.number → is_behind (Some a) r ≡ false

@@ -1,30 +1,30 @@
 -- The least bearer, candidate after candidate and section after section. Assumes nothing.
-use Rattle.std.proofs.Common.{◌≡◌, ℕ, ◌+◌, ◌*◌, ◌%◌, ◌^◌, ◌<◌, ◌≤◌, Bool, cond, List, [], ◌∷◌, length, drop, Some, None, Option, sym, refl, ap, ◌∙◌, subst, arith, length-append}
+use Rattle.std.proofs.Common.{◌≡◌, ℕ, ◌+◌, ◌*◌, ◌%◌, ◌^◌, ◌<◌, ◌≤◌, Bool, cond, List, [], ◌∷◌, length, drop, Some, None, Option, MatchOption, sym, refl, ap, ◌∙◌, subst, arith, length-append}
 use Rattle.std.specs.List.{slice_get, AllByRecursion}
 use Rattle.std.proofs.lemmas.Bool.Decides.{nat_tests}
 use Rattle.std.proofs.lemmas.List.{nil_from_length}
-use Rattle.journal.specs.Meaning.{Meaning, Section, Row, Within, Rising, Lawful, rows_of, first_from}
+use Rattle.journal.specs.Meaning.{Meaning, Section, Row, Within, Rising, rows_of, first_from}
 use Rattle.journal.specs.Calls.{kept_from}
 use Rattle.journal.specs.declared.limits.Limits.{Limits}
-use Rattle.journal.proofs.Walks.{first_some, kept_all}
+use Rattle.journal.proofs.Walks.{first_some, first_none, kept_all, none_above, from_or_end}
 use Rattle.rules.specs.declared.answer.Place.{Place}
 use Rattle.rules.specs.State.{Record, place_of, filed, records_of, those, bears_key}
 use Rattle.law.proofs.Lists.{those_among, length_those}
 use Rattle.law.proofs.Sorted.{length_sorted}
-use Rattle.index_layout.specs.Views.{View, view_at, Holds, Apart}
-use Rattle.index_layout.specs.Held.{FirstAt}
+use Rattle.index_layout.specs.Views.{View, view_at, Apart}
+use Rattle.index_layout.specs.Held.{FirstAt, FirstFrom}
 use Rattle.archive_layout.specs.declared.spot.Spot.{Spot}
-use Rattle.archive_layout.specs.Fit.{Coding, full_view, Homed, Fit}
+use Rattle.archive_layout.specs.Fit.{Coding, full_view, Homed}
 use Rattle.archive_layout.specs.Walks.{filed_at, rest, below_link}
 use Rattle.archive_layout.specs.Keys.{start_behind, sought, front, least, least_from, listed_from, place_in, spot_in, lower, in_place, HandledAt, Coded}
-use Rattle.archive_layout.specs.Promises.{Reads, Known}
+use Rattle.archive_layout.specs.Promises.{Known}
 use Rattle.archive_layout.proofs.Fits.{small, some_rows}
 use Rattle.archive_layout.proofs.Rests.{nth_there, rest_past}
 use Rattle.archive_layout.proofs.Keys.{long, skipped_sought, better}
 use Rattle.archive_layout.proofs.Handles.{WalksOn}
 use Rattle.archive_layout.proofs.Least.{or_else, least_among}
-use Rattle.archive_layout.proofs.Sections.{slot_view, first_slot, no_slot_from, none_above}
-use Rattle.archive_layout.proofs.Search.{filed_start, least_step, least_end, from_there}
+use Rattle.archive_layout.proofs.Sections.{slot_view, first_slot, no_slot_from}
+use Rattle.archive_layout.proofs.Search.{filed_start, least_step, from_there}
 use Rattle.archive_layout.proofs.Numbers.{homed_records}
 use Rattle.archive_layout.proofs.Counting.{length_filed, rising_weaker}
 use Rattle.archive_layout.proofs.Listing.{next_places, from_none, front_listed, front_some, front_none, front_inside}
@@ -33,12 +33,8 @@ abbrev pub place_of_spot : Option Spot → Option Place
 place_of_spot None = None
 place_of_spot (Some x) = Some x.place
 
--- What a walk told of the meaning that it found, of the one before all walks.
-pub told_of : {O J : Type 0} {fits : O → J → Type 0} {meaning : J → Meaning} {j j' : J} {P : Meaning → Type 0} (m : Meaning) → Reads fits meaning j j' P → (o : O) → fits o j → meaning j ≡ m → P m
-told_of {P = P} m r o f e = subst P e (r.told o f)
-
 -- In one section.
-module _ (k : Coding) (m : Meaning) (key : List ℕ) (code hash s : ℕ) (v : View) (rows : List Row) (coded : Coded k m key code hash) (shows : v ≡ full_view k s rows) (after : Option Place) where
+module _ {k : Coding} {m : Meaning} {key : List ℕ} {code hash s : ℕ} {v : View} (rows : List Row) (coded : Coded k m key code hash) (shows : v ≡ full_view k s rows) (after : Option Place) where
   pub search_begins : (i : ℕ) (r : Option ℕ) → WalksOn v i code hash (length v.codes) r → None ≡ place_in (least (rest (sought key after) s rows (below_link (in_place r))))
   search_begins i r w =
       sym (ap (λ rs. place_in (least rs))
@@ -65,11 +61,11 @@ kept_few : (n : ℕ) (xs : List Section) → length (kept_from xs n) ≤ length 
 kept_few n [] = omega arith
 kept_few n (x ∷ xs) = let i = kept_few n xs in grind (arith, nat_tests)
 
-pub none_passed : (k : Coding) (width l : ℕ) (m : Meaning) (vs : List View) (t : Record → Bool) (from : ℕ) → Fit k width l m vs → Lawful m → Passed t m from from 0
-none_passed k width l m vs t from fit law =
+pub none_passed : {k : Coding} {width l : ℕ} {m : Meaning} {vs : List View} {key : List ℕ} {code hash : ℕ} → Known k width l m vs key code hash → (t : Record → Bool) (from : ℕ) → Passed t m from from 0
+none_passed {m = m} known t from =
     let a = kept_few from m.sections in
-    let b = small m.limits fit.limits in
-    record { left = omega (arith, a, b.slots, law.slots); same = refl }
+    let b = small m.limits known.fit.limits in
+    record { left = omega (arith, a, b.slots, known.lawful.slots); same = refl }
 
 place_none : (o : Option Record) → None ≡ place_in o → o ≡ None
 place_none None h = refl
@@ -79,49 +75,62 @@ place_some : (o : Option Record) (p : Place) → Some p ≡ place_in o → (r : 
 place_some None p h = let z : ◌≡◌ {A = ℕ} 0 1 = cc in absurd (omega arith)
 place_some (Some r) p h = let e : place_of r ≡ p = cc in (r, refl, e)
 
-module _ (k : Coding) (width l : ℕ) (m : Meaning) (vs : List View) (t : Record → Bool) (begun from i : ℕ) (fit : Fit k width l m vs) (law : Lawful m) (apart : Apart vs) (sized : length vs ≡ 16)
-    (p : Passed t m begun from i) where
-  step : (s : ℕ) → first_from m.sections from ≡ Some s → least_from t m.sections begun ≡ or_else (least (those t (filed s 0 (rows_of m.sections s)))) (least_from t m.sections (s + 1))
-  step s e = p.same ∙ least_step l m.floor m.sections fit.some law.rising fit.homed t from s e
+-- What an index tells of its first slot from a number on, or from none.
+abbrev pub SlotFrom : List View → Option ℕ → Option (ℕ × ℕ) → Type 0
+SlotFrom vs from r = MatchOption from (r ≡ None) (λ n. FirstFrom vs n r)
 
-  module _ (slot s : ℕ) (first : FirstAt vs from slot s) where
-    comes : first_from m.sections from ≡ Some s
-    comes = first_slot k vs m.sections fit.held m.floor from m.limits law.rising (some_rows m.limits m.sections law.within) sized apart slot s first
+slot_comes : (vs : List View) (from : Option ℕ) (r : Option (ℕ × ℕ)) (h : ℕ × ℕ) → SlotFrom vs from r → r ≡ Some h → FirstAt vs (from_or_end from) h.0 h.1
+slot_comes vs None r h f e = let z : ◌≡◌ {A = Option (ℕ × ℕ)} (Some h) None = sym e ∙ f in let w : ◌≡◌ {A = ℕ} 0 1 = cc in absurd (omega arith)
+slot_comes vs (Some n) r h f e = subst (FirstFrom vs n) e f
 
-    pub shown : view_at vs slot ≡ full_view k s (rows_of m.sections s)
-    shown = slot_view k vs m.sections fit.held slot s (omega (arith, first.slot, sized)) first.holds apart
-
-    pub passed_more : None ≡ place_in (least (those t (filed s 0 (rows_of m.sections s)))) → Passed t m begun (s + 1) (i + 1)
-    passed_more none =
-        let a = first_some m.floor from s m.sections law.rising comes in
-        let b = ap length a.rest in
-        record {
-          left = omega (arith, p.left, b);
-          same = step s comes ∙ ap (λ o. or_else o (least_from t m.sections (s + 1))) (place_none _ none);
-        }
-
-    pub passed_found : (q : Place) → Some q ≡ place_in (least (those t (filed s 0 (rows_of m.sections s)))) → Some (record { start = s; place = q }) ≡ spot_in (least_from t m.sections begun)
-    passed_found q found =
-        let f = place_some _ q found in
-        let z : f.0.start ≡ s = in_section f.0 f.1 in
-        sym (ap spot_in (step s comes ∙ ap (λ o. or_else o (least_from t m.sections (s + 1))) f.1) ∙ ap (λ i. Some (record { start = i; place = place_of f.0 })) z ∙ ap (λ x. Some (record { start = s; place = x })) f.2)
-      where
-        in_section : (r : Record) → least (those t (filed s 0 (rows_of m.sections s))) ≡ Some r → r.start ≡ s
-        in_section r e = filed_start s 0 (rows_of m.sections s) r (those_among t r (filed s 0 (rows_of m.sections s)) (least_among (those t (filed s 0 (rows_of m.sections s))) r e)).0
-
-  pub passed_rest : ((j u : ℕ) → j < 16 → Holds vs j u → from ≤ u → ⊥) → None ≡ spot_in (least_from t m.sections begun)
-  passed_rest none =
-      sym (ap spot_in (p.same ∙ least_end l m.floor m.sections fit.some law.rising fit.homed t from
-      (no_slot_from k vs m.sections fit.held m.floor from m.limits law.rising (some_rows m.limits m.sections law.within) sized apart none)))
-
-  left_none : kept_from m.sections from ≡ [] → None ≡ spot_in (least_from t m.sections begun)
+module _ {k : Coding} {width l : ℕ} {m : Meaning} {vs : List View} {key : List ℕ} {code hash : ℕ} (known : Known k width l m vs key code hash) (apart : Apart vs) (sized : length vs ≡ 16)
+    {t : Record → Bool} {begun i : ℕ} (from : Option ℕ) (p : Passed t m begun (from_or_end from) i) where
+  left_none : kept_from m.sections (from_or_end from) ≡ [] → None ≡ spot_in (least_from t m.sections begun)
   left_none e = sym (ap spot_in (p.same ∙ ap (λ ys. least (those t (records_of ys))) e))
 
   pub passed_all : 16 ≤ i → None ≡ spot_in (least_from t m.sections begun)
-  passed_all h = left_none (nil_from_length (kept_from m.sections from) (omega (arith, p.left)))
+  passed_all h = left_none (nil_from_length (kept_from m.sections (from_or_end from)) (omega (arith, p.left)))
 
-  pub passed_top : from ≡ 2 ^ 64 → None ≡ spot_in (least_from t m.sections begun)
-  passed_top e = left_none (none_above m.limits m.sections from law.within e)
+  module _ (r : Option (ℕ × ℕ)) (found : SlotFrom vs from r) where
+    pub passed_rest : r ≡ None → None ≡ spot_in (least_from t m.sections begun)
+    passed_rest e = left_none (by from found)
+      where
+        by : (o : Option ℕ) → SlotFrom vs o r → kept_from m.sections (from_or_end o) ≡ []
+        by None f = none_above m.limits (2 ^ 64) m.sections known.lawful.within refl
+        by (Some n) f =
+            first_none n m.sections
+            (no_slot_from k vs m.sections known.fit.held m.floor n m.limits known.lawful.rising (some_rows m.limits m.sections known.lawful.within) sized apart (subst (FirstFrom vs n) e f))
+
+    module _ (slot s : ℕ) (is : r ≡ Some (slot, s)) where
+      first : FirstAt vs (from_or_end from) slot s
+      first = slot_comes vs from r (slot, s) found is
+
+      first_is : first_from m.sections (from_or_end from) ≡ Some s
+      first_is = first_slot k vs m.sections known.fit.held m.floor (from_or_end from) m.limits known.lawful.rising (some_rows m.limits m.sections known.lawful.within) sized apart slot s first
+
+      step : least_from t m.sections begun ≡ or_else (least (those t (filed s 0 (rows_of m.sections s)))) (least_from t m.sections (s + 1))
+      step = p.same ∙ least_step l m.floor m.sections known.fit.some known.lawful.rising known.fit.homed t (from_or_end from) s first_is
+
+      pub shown : view_at vs slot ≡ full_view k s (rows_of m.sections s)
+      shown = slot_view k vs m.sections known.fit.held slot s (omega (arith, first.slot, sized)) first.holds apart
+
+      pub passed_more : (next : Option ℕ) → from_or_end next ≡ s + 1 → None ≡ place_in (least (those t (filed s 0 (rows_of m.sections s)))) → Passed t m begun (from_or_end next) (i + 1)
+      passed_more next e none =
+          let a = first_some m.floor (from_or_end from) s m.sections known.lawful.rising first_is in
+          let b = ap length a.rest in
+          rw e (record {
+            left = omega (arith, p.left, b);
+            same = step ∙ ap (λ o. or_else o (least_from t m.sections (s + 1))) (place_none _ none);
+          })
+
+      pub passed_found : (q : Place) → Some q ≡ place_in (least (those t (filed s 0 (rows_of m.sections s)))) → Some (record { start = s; place = q }) ≡ spot_in (least_from t m.sections begun)
+      passed_found q found =
+          let f = place_some _ q found in
+          let z : f.0.start ≡ s = in_section f.0 f.1 in
+          sym (ap spot_in (step ∙ ap (λ o. or_else o (least_from t m.sections (s + 1))) f.1) ∙ ap (λ i. Some (record { start = i; place = place_of f.0 })) z ∙ ap (λ x. Some (record { start = s; place = x })) f.2)
+        where
+          in_section : (r : Record) → least (those t (filed s 0 (rows_of m.sections s))) ≡ Some r → r.start ≡ s
+          in_section r e = filed_start s 0 (rows_of m.sections s) r (those_among t r (filed s 0 (rows_of m.sections s)) (least_among (those t (filed s 0 (rows_of m.sections s))) r e)).0
 
 -- A search behind a place may begin at that place's section.
 pub from_behind : (l low : ℕ) (key : List ℕ) (a : Option Place) (xs : List Section) → 0 < l → Rising low xs → AllByRecursion (Homed l) xs
@@ -129,9 +138,9 @@ pub from_behind : (l low : ℕ) (key : List ℕ) (a : Option Place) (xs : List S
 from_behind l low key None xs some up homed = ap (λ ys. least (those (sought key None) (records_of ys))) (kept_all low 0 xs up (omega arith))
 from_behind l low key (Some a) xs some up homed = ap least (from_there l key a xs some homed)
 
-pub next_is : (k : Coding) (width l : ℕ) (m : Meaning) (vs : List View) (key : List ℕ) (code hash from : ℕ) (a : Option Place) (r : Option Spot) → Known k width l m vs key code hash → from ≡ start_behind l a
+pub next_is : {k : Coding} {width l : ℕ} {m : Meaning} {vs : List View} {key : List ℕ} {code hash : ℕ} → Known k width l m vs key code hash → (from : ℕ) (a : Option Place) (r : Option Spot) → from ≡ start_behind l a
     → r ≡ spot_in (least_from (sought key a) m.sections from) → r ≡ spot_in (least (those (sought key a) (records_of m.sections)))
-next_is k width l m vs key code hash from a r known e is =
+next_is {l = l} {m = m} {key = key} known from a r e is =
     is ∙ ap (λ n. spot_in (least_from (sought key a) m.sections n)) e ∙ ap spot_in (from_behind l m.floor key a m.sections known.fit.some known.lawful.rising known.fit.homed)
 
 -- Places one after another: how far a walk through the listing of a key has come.
@@ -146,7 +155,7 @@ spot_place : (o : Option Record) → (r : Option Spot) → r ≡ spot_in o → p
 spot_place None r e = ap place_of_spot e
 spot_place (Some x) r e = ap place_of_spot e
 
-module _ (k : Coding) (width l : ℕ) (m : Meaning) (vs : List View) (key : List ℕ) (code hash : ℕ) (known : Known k width l m vs key code hash) (a : Option Place) (i : ℕ) (to : ListedTo m key a i) (r : Option Spot)
+module _ {k : Coding} {width l : ℕ} {m : Meaning} {vs : List View} {key : List ℕ} {code hash : ℕ} (known : Known k width l m vs key code hash) {a : Option Place} {i : ℕ} (to : ListedTo m key a i) {r : Option Spot}
     (is : r ≡ spot_in (least (those (sought key a) (records_of m.sections)))) where
   ahead : place_of_spot r ≡ front (drop i (listed_from m.sections key None))
   ahead = spot_place _ r is ∙ front_listed (those (sought key a) (records_of m.sections)) ∙ ap front to.left
@@ -180,8 +189,8 @@ records_most l (x ∷ xs) h w =
     let c = w.0.rows in
     omega arith
 
-pub listed_most : (k : Coding) (width l : ℕ) (m : Meaning) (vs : List View) (key : List ℕ) (code hash : ℕ) → Known k width l m vs key code hash → length (listed_from m.sections key None) ≤ 2048
-listed_most k width l m vs key code hash known =
+pub listed_most : {k : Coding} {width l : ℕ} {m : Meaning} {vs : List View} {key : List ℕ} {code hash : ℕ} → Known k width l m vs key code hash → length (listed_from m.sections key None) ≤ 2048
+listed_most {m = m} {key = key} known =
     let q = small m.limits known.fit.limits in
     let a = records_most m.limits m.sections q.rows known.lawful.within in
     let b = length_those (bears_key key) (records_of m.sections) in

@@ -1,13 +1,11 @@
 -- The index goes through the sections as the journal's meaning has them. Assumes nothing.
-use Rattle.std.proofs.Common.{◌≡◌, ℕ, ◌+◌, ◌^◌, ◌<◌, ◌≤◌, true, false, eqb, ◌⊎◌, List, [], ◌∷◌, length, Some, None, Option, sym, refl, ap, ◌∙◌, subst, inl, inr, ⊎_elim, arith}
+use Rattle.std.proofs.Common.{◌≡◌, ℕ, ◌+◌, ◌<◌, ◌≤◌, true, false, eqb, ◌⊎◌, List, [], ◌∷◌, length, Some, None, Option, sym, refl, ap, ◌∙◌, subst, inl, inr, ⊎_elim, arith}
 use Rattle.std.specs.List.{AllByRecursion}
 use Rattle.std.proofs.lemmas.Bool.{cond-true, cond-false, cases_lt, eq-eqb, ne_eqb, both_ways, lt-ltb, le-ltb}
-use Rattle.std.proofs.ByRecursion.{All-weaker}
-use Rattle.journal.specs.Meaning.{Section, Row, rows_of, first_from, Rising, Within}
-use Rattle.journal.specs.Calls.{kept_from}
+use Rattle.journal.specs.Meaning.{Section, Row, rows_of, first_from, Rising}
 use Rattle.journal.specs.declared.limits.Limits.{Limits}
 use Rattle.journal.proofs.Rows.{rows_kept_from, rows_gone}
-use Rattle.journal.proofs.Walks.{Leads, first_some, first_none, kept_none}
+use Rattle.journal.proofs.Walks.{Leads, first_some, first_none}
 use Rattle.index_layout.specs.Views.{View, view_at, Holds, Apart}
 use Rattle.index_layout.specs.Held.{FirstAt}
 use Rattle.index_layout.proofs.Held.{found_cases, found_at, Somewhere}
@@ -92,7 +90,3 @@ module _ (k : Coding) (vs : List View) (xs : List Section) (agree : Agree k vs x
       by (Some t) e =
           let w = rows_slot k vs xs agree t (first_rows low n t l xs up some e) in
           absurd (none w.slot t (omega (arith, w.below, sized)) w.here (first_some low n t xs up e).from)
-
--- No section is left above the last start that there can be.
-pub none_above : (l : Limits) (xs : List Section) (n : ℕ) → AllByRecursion (Within l) xs → n ≡ 2 ^ 64 → kept_from xs n ≡ []
-none_above l xs n within e = kept_none n xs (All-weaker (Within l) (λ (x : Section). x.start < n) (λ x q. subst (λ t. x.start < t) (sym e) q.start) xs within)

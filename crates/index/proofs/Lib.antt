@@ -1,2 +1,3 @@
-pub mod Reaching
-pub mod Handles
+pub mod Slots
+pub mod Rows
+pub mod Chains

@@ -1,3 +1,4 @@
 pub mod Handles
+pub mod Rows
 pub mod Viewed
 pub mod Slots

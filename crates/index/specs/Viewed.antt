@@ -1,18 +1,24 @@
--- What a section of the code stands for.
---   viewed s      the slot as the archive sees it; what lies past the count does not show
+-- What a section of the code stands for, and what a slot does.
+--   viewed s      the section as the archive sees it
+--   slot_view o   a slot that holds a section, or none
 --   reaches n v   whether the slot v holds a start at or above n
-use Rattle.std.specs.Prelude.{ℕ, Bool, ◌&&◌, take, nat_le}
-use Rattle.index_layout.specs.Views.{View}
+use Rattle.std.specs.Prelude.{ℕ, Bool, true, ◌&&◌, Some, None, Option, nat_le}
+use Rattle.index_layout.specs.Views.{View, free_view}
+use Rattle.index.specs.Rows.{offsets_of, codes_of, buckets_of}
 use Rattle.index.specs.declared.section.Section.{Section}
 
 abbrev pub viewed : Section → View
 viewed s = record {
-  used = s.used;
+  used = true;
   start = s.start;
-  offsets = take s.numbers.count s.numbers.offsets;
-  codes = take s.numbers.count s.codes;
-  buckets = take s.buckets.count s.buckets.values;
+  offsets = offsets_of s.rows.items;
+  codes = codes_of s.rows.items;
+  buckets = buckets_of s.rows.items;
 }
+
+abbrev pub slot_view : Option Section → View
+slot_view None = free_view
+slot_view (Some s) = viewed s
 
 abbrev pub reaches : ℕ → View → Bool
 reaches n v = v.used && nat_le n v.start

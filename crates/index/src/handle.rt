@@ -8,8 +8,9 @@ use rules::fault::ArchiveFault;
 /// One more than the largest slot of a handle.
 const SLOTS: u64 = 16_777_216;
 /// One more than the largest position of a handle.
-const POSITIONS: u64 = 1_099_511_627_776;
+pub(crate) const POSITIONS: u64 = 1_099_511_627_776;
 
+// A handle is a number and not a type of its own, since callers keep it as one: packing and unpacking are each other's inverse.
 /// The handle of a slot and a position.
 pub fn handle(slot: u64, position: u64) -> Result<u64, ArchiveFault>
     ensures is { result ≡ packed slot position }

@@ -2,7 +2,7 @@
 
 ghost use Rattle.std.specs.Prelude.{◌≡◌, map, length};
 ghost use Rattle.index_layout.specs.Views.{Apart};
-ghost use Rattle.index.specs.Viewed.{viewed};
+ghost use Rattle.index.specs.Viewed.{slot_view};
 
 pub mod ops;
 
@@ -11,13 +11,13 @@ use crate::section::Section;
 /// Sixteen slots, of which no two hold the same start.
 #[derive(Drop)]
 pub struct Index {
-    sections: [Section; 16],
-    ghost sized: { length sections ≡ 16 },
-    ghost apart: { Apart (map viewed sections) },
+    slots: [Option<Section>; 16],
+    ghost sized: { length slots ≡ 16 },
+    ghost apart: { Apart (map slot_view slots) },
 }
 
 /// How many different numbers there are, and how many records.
-#[derive(Clone, Copy)]
+#[derive(Clone, Copy, Debug, Default, PartialEq, Eq)]
 pub struct Tally {
     pub numbers: u64,
     pub records: u64,

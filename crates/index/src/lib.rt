@@ -2,8 +2,8 @@
 // Tables of fixed size, none of them on a heap. docs/ARCHITECTURE.md says how a section keeps its chains.
 #![tactic(auto)]
 
-mod buckets;
 pub mod handle;
 pub mod index;
-mod numbers;
+pub mod key_code;
+mod row;
 pub mod section;

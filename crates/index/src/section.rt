@@ -1,20 +1,26 @@
-// One slot of the index. Its methods are in section/ops.rt, since their contracts cite what a slot stands for.
+// A section of the index. Its methods are in section/ops.rt, since their contracts cite what a section stands for.
 
-ghost use Rattle.std.specs.Prelude.{◌≡◌, length};
+ghost use Rattle.std.specs.Prelude.{◌≤◌};
+ghost use Rattle.arrayvec.specs.ArrayVec.{array_vec_len};
+ghost use Rattle.index.specs.Rows.{Linked};
 
 pub mod ops;
 
-use crate::buckets::Buckets;
-use crate::numbers::Numbers;
+use crate::row::{Ends, Row};
+use arrayvec::ArrayVec;
 
-/// A kept section: by position the translated key, the offset of the number and the bucket of the hash.
-#[derive(Clone, Copy)]
+/// A kept section: its rows by position, and where the chains of the numbers and of the buckets begin and end.
+#[derive(Drop)]
 pub struct Section {
     start: u64,
-    used: bool,
-    codes: [u64; 128],
-    numbers: Numbers,
-    buckets: Buckets,
-    ghost sized: { length codes ≡ 128 },
-    ghost level: { numbers.count ≡ buckets.count },
+    distinct: usize,
+    rows: ArrayVec<Row, 128>,
+    numbers: [Option<Ends>; 64],
+    heads: [Option<u8>; 128],
+    ghost few: { array_vec_len rows ≤ 128 },
+    ghost linked: { Linked distinct rows.items numbers heads },
 }
+
+/// What an addition answers where there is no room.
+#[derive(Clone, Copy, Debug, PartialEq, Eq)]
+pub struct NoRoom;

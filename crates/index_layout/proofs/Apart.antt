@@ -1,7 +1,8 @@
 -- What keeps the starts of the slots apart. Assumes nothing.
-use Rattle.std.proofs.Common.{◌≡◌, ℕ, ◌<◌, true, false, List, length, get_or, set, sym, refl, ap, ◌∙◌, inl, inr, arith, length-set, get_or-set_other, get_or-set_same}
+use Rattle.std.proofs.Common.{◌≡◌, ℕ, ◌<◌, Bool, true, false, cond, List, map, length, get_or, set, sym, refl, ap, ◌∙◌, inl, inr, arith, length-set, get_or-set_other, get_or-set_same}
+use Rattle.std.proofs.lemmas.List.{length-map, get_or-map}
 use Rattle.std.proofs.lemmas.Bool.{cases_eq, both_ways}
-use Rattle.index_layout.specs.Views.{View, free_view, open_view, view_at, Holds, Apart}
+use Rattle.index_layout.specs.Views.{View, free_view, open_view, goes, kept_view, view_at, Holds, Apart}
 
 -- One slot changed, to a view whose start no other slot holds.
 pub apart_put : (vs : List View) (slot : ℕ) (v : View) → slot < length vs → Apart vs
@@ -50,3 +51,20 @@ pub apart_same : (vs : List View) (i : ℕ) (v : View) → i < length vs → v.u
 apart_same vs i v l eu es apart =
     apart_put vs i v l apart
     (λ k lk u h. apart (record { i = k; j = i; s = v.start; i_below = lk; j_below = l; at_i = h; at_j = (sym eu ∙ u, sym es) }))
+
+-- What a strike leaves.
+pub apart_kept : (vs : List View) (min : ℕ) → Apart vs → Apart (map (kept_view min) vs)
+apart_kept vs min apart t =
+    let n = length-map vs (kept_view min) in
+    let li : t.i < length vs = omega (arith, t.i_below) in
+    let lj : t.j < length vs = omega (arith, t.j_below) in
+    apart (record { i = t.i; j = t.j; s = t.s; i_below = li; j_below = lj; at_i = was t.i t.s li t.at_i; at_j = was t.j t.s lj t.at_j })
+  where
+    held : (v : View) (s : ℕ) (b : Bool) → goes min v ≡ b → ((cond b free_view v).used ≡ true) × ((cond b free_view v).start ≡ s) → (v.used ≡ true) × (v.start ≡ s)
+    held v s true e h = absurd (both_ways false refl h.0)
+    held v s false e h = h
+
+    was : (k s : ℕ) → k < length vs → Holds (map (kept_view min) vs) k s → Holds vs k s
+    was k s l h =
+        let e = get_or-map (kept_view min) vs k free_view free_view l in
+        held (view_at vs k) s (goes min (view_at vs k)) refl (ap (λ v. v.used) (sym e) ∙ h.0, ap (λ v. v.start) (sym e) ∙ h.1)

@@ -5,7 +5,8 @@
 --   found_set_other  another slot's change is not seen
 --   found_kept       what a strike leaves, by start
 --   total_set        one slot changed; total_none, total_all, total_step and total_end go through the slots
-use Rattle.std.proofs.Common.{◌≡◌, ℕ, zero, suc, ◌+◌, ◌<◌, ◌≤◌, Bool, true, false, cond, eqb, ltb, ◌⊎◌, List, [], ◌∷◌, map, length, get_or, drop, set, sym, refl, ap, ◌∙◌, inl, inr, ⊎_elim, arith}
+--   Summed, summed_more   a sum of what is small
+use Rattle.std.proofs.Common.{◌≡◌, ℕ, zero, suc, ◌+◌, ◌*◌, ◌<◌, ◌≤◌, Bool, true, false, cond, eqb, ltb, ◌⊎◌, List, [], ◌∷◌, map, length, get_or, drop, set, sym, refl, ap, ◌∙◌, inl, inr, ⊎_elim, arith}
 use Rattle.std.proofs.lemmas.List.{drop_more, drop_all}
 use Rattle.std.proofs.lemmas.Bool.Decides.{nat_tests}
 use Rattle.std.proofs.lemmas.Bool.{cond-true, cond-false, cond_both, cases_Bool, cases_eq, cases_lt, eqb-true, eq-eqb, ne_eqb, and_parts, and_from, both_ways, lt-ltb, le-ltb}
@@ -130,3 +131,12 @@ total_step h vs i n m l e inv =
 
 pub total_end : (h : View → ℕ) (vs : List View) (i n : ℕ) → length vs ≤ i → n + total h (drop i vs) ≡ total h vs → n ≡ total h vs
 total_end h vs i n l inv = let d : total h (drop i vs) ≡ 0 = ap (total h) (drop_all i vs l) in omega arith
+
+-- A sum of what is at most 128 each, as far as the slot i.
+pub record Summed (h : View → ℕ) (vs : List View) (i n : ℕ) : Type 0 where
+  pub rest : n + total h (drop i vs) ≡ total h vs
+  pub few : n ≤ 128 * i
+
+pub summed_more : (h : View → ℕ) (vs : List View) (i n m r : ℕ) → i < length vs → Summed h vs i n → m ≡ weight h (view_at vs i) → r ≡ n + m → r ≤ n + 128 → Summed h vs (i + 1) r
+summed_more h vs i n m r l sum em er few =
+    record { rest = ap (λ k. k + total h (drop (i + 1) vs)) er ∙ total_step h vs i n m l em sum.rest; few = omega (arith, sum.few) }

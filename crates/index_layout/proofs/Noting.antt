@@ -105,9 +105,8 @@ noted_opened vs ws us i s o c b r n none opened near apart er eu =
         and_from _ _ (ap (λ v. takes v o) begins ∙ fits)
         (or_right _ _ (lt-ltb (total one vs) slot_count (omega (arith, total_free vs i li opened.free))))
 
-pub noted_shut : (vs ws : List View) (s o c b : ℕ) → length vs ≡ slot_count → found vs s ≡ free_view → Shut vs s → ws ≡ vs → Wrote vs ws s o c b false
-noted_shut vs ws s o c b n none shut ew =
-    record { result = sym (by shut); starts = λ y. absurd (both_ways false refl y); slots = λ y. absurd (both_ways false refl y); kept = λ _. ew }
+pub noted_shut : (vs : List View) (s o : ℕ) → length vs ≡ slot_count → found vs s ≡ free_view → Shut vs s → false ≡ has_room vs s o
+noted_shut vs s o n none shut = sym (by shut)
   where
     by : ((found vs s).used ≡ true) ⊎ Crowded vs s → has_room vs s o ≡ false
     by (inl u) = absurd (both_ways _ (ap (λ v. v.used) none) u)

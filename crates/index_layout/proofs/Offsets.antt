@@ -1,57 +1,38 @@
 -- The records of a section by offset: what a record more makes of the first and next positions and of the count of offsets. Assumes nothing.
---   earliest_latest     an offset has a first position where it has a last one
 --   following_latest    a position has no next one just where it is its offset's last
---   firsts_new, -again  first positions after a record more, of an offset that is new, or that is not
---   nexts_new, -again   next positions after it
---   fresh_new, -again   how many offsets there are after it
---   earliest_held, following_held, fresh_held   the same over the front of the list
+--   oldest_push         the first positions by offset, after a record more
+--   following_push, following_none   the next position of one, after a record more, and of that record
+--   fresh_push          how many offsets there are after it
 --   first_within, next_within   where the answers lie
-use Rattle.std.proofs.Common.{◌≡◌, ℕ, zero, suc, ◌+◌, ◌<◌, ◌≤◌, Bool, true, false, cond, ◌&&◌, eqb, ltb, ◌⊎◌, List, length, get_or, take, set, IfSome, Option, sym, refl, ap, ◌∙◌, subst, inl, inr, add-one, arith, length-set, get_or-set_other, get_or-take, get_or-set_same}
-use Rattle.std.proofs.lemmas.List.{length-take-le}
+use Rattle.std.proofs.Common.{◌≡◌, ℕ, zero, suc, ◌+◌, ◌<◌, ◌≤◌, Bool, true, false, cond, ◌&&◌, eqb, ltb, ◌⊎◌, List, [], ◌∷◌, ◌++◌, length, get_or, set, IfSome, is_some, unwrap_or, Some, Option, sym, refl, ap, ◌∙◌, subst, inl, inr, add-one, arith}
+use Rattle.std.proofs.lemmas.List.{get_or_append_left, get_or_push}
 use Rattle.std.proofs.lemmas.Bool.{eq-eqb, ne_eqb, lt-ltb, le-ltb, cases_eq, cond-true, cond-false, cond_both, cases_Bool, eqb-true, ltb-true, and_parts, and_right, and_from}
 use Rattle.index_layout.specs.Links.{earliest, latest, following, fresh, linked}
-use Rattle.index_layout.proofs.Links.{latest_le, latest_at}
+use Rattle.index_layout.proofs.Links.{latest_at, table_push}
 
--- Writes past the places that are looked at.
-earliest_agree : (xs ys : List ℕ) (v n : ℕ) → ((p : ℕ) → p < n → get_or xs p 0 ≡ get_or ys p 0) → earliest xs v n ≡ earliest ys v n
-earliest_agree xs ys v zero h = refl
-earliest_agree xs ys v (suc n) h =
-    let e = h n (omega arith) in
-    let f = earliest_agree xs ys v n (λ p l. h p (omega arith)) in
+-- A list that has grown.
+earliest_front : (xs ys : List ℕ) (v n : ℕ) → n ≤ length xs → earliest (xs ++ ys) v n ≡ earliest xs v n
+earliest_front xs ys v zero h = refl
+earliest_front xs ys v (suc n) h =
+    let e = get_or_append_left xs ys 0 n (omega arith) in
+    let f = earliest_front xs ys v n (omega arith) in
     simp (e, f)
 
-following_agree : (xs ys : List ℕ) (p n : ℕ) → get_or xs p 0 ≡ get_or ys p 0 → ((q : ℕ) → q < n → get_or xs q 0 ≡ get_or ys q 0) → following xs p n ≡ following ys p n
-following_agree xs ys p zero a h = refl
-following_agree xs ys p (suc n) a h =
-    let e = h n (omega arith) in
-    let f = following_agree xs ys p n a (λ q l. h q (omega arith)) in
+following_front : (xs ys : List ℕ) (p n : ℕ) → p < length xs → n ≤ length xs → following (xs ++ ys) p n ≡ following xs p n
+following_front xs ys p zero l h = refl
+following_front xs ys p (suc n) l h =
+    let a = get_or_append_left xs ys 0 p l in
+    let e = get_or_append_left xs ys 0 n (omega arith) in
+    let f = following_front xs ys p n l (omega arith) in
     simp (e, a, f)
 
-fresh_agree : (xs ys : List ℕ) (n : ℕ) → ((p : ℕ) → p < n → get_or xs p 0 ≡ get_or ys p 0) → fresh xs n ≡ fresh ys n
-fresh_agree xs ys zero h = refl
-fresh_agree xs ys (suc n) h =
-    let e = h n (omega arith) in
-    let f = fresh_agree xs ys n (λ p l. h p (omega arith)) in
-    let g = earliest_agree xs ys (get_or ys n 0) n (λ p l. h p (omega arith)) in
+fresh_front : (xs ys : List ℕ) (n : ℕ) → n ≤ length xs → fresh (xs ++ ys) n ≡ fresh xs n
+fresh_front xs ys zero h = refl
+fresh_front xs ys (suc n) h =
+    let e = get_or_append_left xs ys 0 n (omega arith) in
+    let f = fresh_front xs ys n (omega arith) in
+    let g = earliest_front xs ys (get_or xs n 0) n (omega arith) in
     simp (e, f, g)
-
-set_agree : (xs : List ℕ) (n v p : ℕ) → p < n → get_or (set xs n v) p 0 ≡ get_or xs p 0
-set_agree xs n v p l = get_or-set_other xs n p v 0 (λ e. omega arith)
-
-pub earliest_held : (xs : List ℕ) (v n : ℕ) → n ≤ length xs → earliest (take n xs) v (length (take n xs)) ≡ earliest xs v n
-earliest_held xs v n h =
-    let e = length-take-le n xs h in
-    rw e (earliest_agree (take n xs) xs v n (λ p l. get_or-take n xs p 0 l))
-
-pub following_held : (xs : List ℕ) (p n : ℕ) → n ≤ length xs → p < n → following (take n xs) p (length (take n xs)) ≡ following xs p n
-following_held xs p n h l =
-    let e = length-take-le n xs h in
-    rw e (following_agree (take n xs) xs p n (get_or-take n xs p 0 l) (λ q k. get_or-take n xs q 0 k))
-
-pub fresh_held : (xs : List ℕ) (n : ℕ) → n ≤ length xs → fresh (take n xs) (length (take n xs)) ≡ fresh xs n
-fresh_held xs n h =
-    let e = length-take-le n xs h in
-    rw e (fresh_agree (take n xs) xs n (λ p l. get_or-take n xs p 0 l))
 
 pub fresh_le : (xs : List ℕ) (n : ℕ) → fresh xs n ≤ n
 fresh_le xs zero = omega arith
@@ -59,20 +40,8 @@ fresh_le xs (suc n) =
     let again = fresh_le xs n in
     cond_both (eqb (earliest xs (get_or xs n 0) n) 0) (fresh xs n + 1) (fresh xs n) (λ m. m ≤ suc n) (λ _. omega arith) (λ _. omega arith)
 
--- First and last positions.
-pub earliest_latest : (xs : List ℕ) (v n : ℕ) → eqb (earliest xs v n) 0 ≡ eqb (latest xs v n) 0
-earliest_latest xs v zero = refl
-earliest_latest xs v (suc n) = by (cases_Bool (eqb (get_or xs n 0) v)) (cases_Bool (eqb (earliest xs v n) 0)) (earliest_latest xs v n)
-  where
-    by : (eqb (get_or xs n 0) v ≡ true) ⊎ (eqb (get_or xs n 0) v ≡ false) → (eqb (earliest xs v n) 0 ≡ true) ⊎ (eqb (earliest xs v n) 0 ≡ false)
-        → eqb (earliest xs v n) 0 ≡ eqb (latest xs v n) 0 → eqb (earliest xs v (suc n)) 0 ≡ eqb (latest xs v (suc n)) 0
-    by (inl t) (inl z) again = simp (t, z)
-    by (inl t) (inr z) again = let s : eqb (suc n) 0 ≡ false = ne_eqb (suc n) 0 (λ e. omega arith) in simp (t, z, s)
-    by (inr f) (inl z) again = simp (f, z) (sym z ∙ again)
-    by (inr f) (inr z) again = simp (f, z) (sym z ∙ again)
-
 -- Next positions.
-following_none : (xs : List ℕ) (p n : ℕ) → n ≤ p + 1 → following xs p n ≡ 0
+pub following_none : (xs : List ℕ) (p n : ℕ) → n ≤ p + 1 → following xs p n ≡ 0
 following_none xs p zero h = refl
 following_none xs p (suc n) h =
     let f = following_none xs p n (omega arith) in
@@ -124,21 +93,19 @@ following_latest xs p (suc n) h = by (cases_eq p n) (λ l. following_latest xs p
         later l (cases_eq (get_or xs n 0) (get_or xs p 0)) (again l)
 
 -- After a record more, of the offset v at place n.
-following_push : (xs : List ℕ) (n v p : ℕ) → n < length xs → p < n
-    → following (set xs n v) p (n + 1) ≡ cond (eqb (latest xs v n) (p + 1)) (n + 1) (following xs p n)
-following_push xs n v p hn hp = rw add-one (by (following_latest xs p n hp) (cases_eq (latest xs v n) (p + 1)) (cases_eq v (get_or xs p 0)))
+pub following_push : (xs : List ℕ) (v n p : ℕ) → length xs ≡ n → p < n
+    → following (xs ++ v ∷ []) p (n + 1) ≡ cond (eqb (latest xs v n) (p + 1)) (n + 1) (following xs p n)
+following_push xs v n p e hp = rw add-one (by (following_latest xs p n hp) (cases_eq (latest xs v n) (p + 1)) (cases_eq v (get_or xs p 0)))
   where
-    here : get_or (set xs n v) n 0 ≡ v
-    here = get_or-set_same xs n v 0 hn
-
-    front : following (set xs n v) p n ≡ following xs p n
-    front = following_agree (set xs n v) xs p n (set_agree xs n v p hp) (λ q l. set_agree xs n v q l)
-
-    more : following (set xs n v) p (suc n) ≡ cond (eqb (following xs p n) 0) (cond (ltb p n && eqb v (get_or xs p 0)) (suc n) 0) (following xs p n)
-    more = let a = set_agree xs n v p hp in simp (here, front, a)
+    more : following (xs ++ v ∷ []) p (suc n) ≡ cond (eqb (following xs p n) 0) (cond (ltb p n && eqb v (get_or xs p 0)) (suc n) 0) (following xs p n)
+    more =
+        let here = get_or_push xs v 0 n e in
+        let a = get_or_append_left xs (v ∷ []) 0 p (omega arith) in
+        let front = following_front xs (v ∷ []) p n (omega arith) (omega arith) in
+        simp (here, front, a)
 
     by : Ends xs p n → (latest xs v n ≡ p + 1) ⊎ (latest xs v n ≡ p + 1 → ⊥) → (v ≡ get_or xs p 0) ⊎ (v ≡ get_or xs p 0 → ⊥)
-        → following (set xs n v) p (suc n) ≡ cond (eqb (latest xs v n) (p + 1)) (suc n) (following xs p n)
+        → following (xs ++ v ∷ []) p (suc n) ≡ cond (eqb (latest xs v n) (p + 1)) (suc n) (following xs p n)
     by (inl z) (inl e) (inl q) =
         more ∙ cond-true _ _ _ (eq-eqb _ _ z.1) ∙ cond-true _ _ _ (and_from _ _ (lt-ltb p n hp) (eq-eqb _ _ q)) ∙ sym (cond-true _ _ _ (eq-eqb _ _ e))
     by (inr z) (inl e) (inl q) = absurd (z.0 (ap (λ u. latest xs u n) (sym q) ∙ e ∙ add-one p))
@@ -148,93 +115,58 @@ following_push xs n v p hn hp = rw add-one (by (following_latest xs p n hp) (cas
         more ∙ cond-true _ _ _ (eq-eqb _ _ z.1) ∙ cond-false _ _ _ (and_right (ltb p n) _ (ne_eqb _ _ q)) ∙ sym z.1 ∙ sym (cond-false _ _ _ (ne_eqb _ _ e))
     by (inr z) (inr e) c = more ∙ cond-false _ _ _ (ne_eqb _ _ z.1) ∙ sym (cond-false _ _ _ (ne_eqb _ _ e))
 
--- The offset is new.
-pub nexts_new : (next xs : List ℕ) (n v : ℕ) → n < length xs → n < length next → latest xs v n ≡ 0
-    → ((p : ℕ) → p < n → get_or next p 0 ≡ following xs p n)
-    → (p : ℕ) → p < n + 1 → get_or (set next n 0) p 0 ≡ following (set xs n v) p (n + 1)
-nexts_new next xs n v hn hl z old p hp =
-    elim (cases_eq p n) [
-      | inl e ↦ rw e (get_or-set_same next n 0 0 hl ∙ sym (following_none (set xs n v) n (n + 1) (omega arith)))
-      | inr ne ↦
-          let l : p < n = omega (arith, ne) in
-          get_or-set_other next n p 0 0 ne ∙ old p l ∙ sym (following_push xs n v p hn l ∙ cond-false _ _ _ (ne_eqb (latest xs v n) (p + 1) (λ e. omega (arith, e, z))))
-    ]
-
--- The offset has the last position q.
-pub nexts_again : (next xs : List ℕ) (n v q : ℕ) → n < length xs → n < length next → latest xs v n ≡ q + 1
-    → ((p : ℕ) → p < n → get_or next p 0 ≡ following xs p n)
-    → (p : ℕ) → p < n + 1 → get_or (set (set next n 0) q (n + 1)) p 0 ≡ following (set xs n v) p (n + 1)
-nexts_again next xs n v q hn hl z old p hp =
-    let lq : q < n = omega (arith, latest_le xs v n) in
-    elim (cases_eq p q) [
-      | inl e ↦
-          let lp : p < n = omega arith in
-          let t : eqb (latest xs v n) (p + 1) ≡ true = eq-eqb _ _ (z ∙ ap (λ i. i + 1) (sym e)) in
-          let s : get_or (set (set next n 0) q (n + 1)) p 0 ≡ n + 1 = rw e (get_or-set_same (set next n 0) q (n + 1) 0 (within lq)) in
-          s ∙ sym (following_push xs n v p hn lp ∙ cond-true _ _ _ t)
-      | inr nq ↦ get_or-set_other (set next n 0) q p (n + 1) 0 nq ∙ rest nq (cases_eq p n)
-    ]
-  where
-    within : q < n → q < length (set next n 0)
-    within l = simp length-set (omega arith)
-
-    rest : (p ≡ q → ⊥) → (p ≡ n) ⊎ (p ≡ n → ⊥) → get_or (set next n 0) p 0 ≡ following (set xs n v) p (n + 1)
-    rest nq (inl e) = rw e (get_or-set_same next n 0 0 hl ∙ sym (following_none (set xs n v) n (n + 1) (omega arith)))
-    rest nq (inr ne) =
-        let l : p < n = omega (arith, ne) in
-        get_or-set_other next n p 0 0 ne ∙ old p l ∙ sym (following_push xs n v p hn l ∙ cond-false _ _ _ (ne_eqb (latest xs v n) (p + 1) (λ e. nq (omega (arith, e, z)))))
-
-earliest_push : (xs : List ℕ) (n v o : ℕ) → n < length xs → earliest (set xs n v) o (n + 1) ≡ cond (eqb (earliest xs o n) 0) (cond (eqb v o) (n + 1) 0) (earliest xs o n)
-earliest_push xs n v o hn =
-    let here = get_or-set_same xs n v 0 hn in
-    let front = earliest_agree (set xs n v) xs o n (λ p l. set_agree xs n v p l) in
+earliest_push : (xs : List ℕ) (v o n : ℕ) → length xs ≡ n
+    → earliest (xs ++ v ∷ []) o (n + 1) ≡ cond (eqb (earliest xs o n) 0) (cond (eqb v o) (n + 1) 0) (earliest xs o n)
+earliest_push xs v o n e =
+    let here = get_or_push xs v 0 n e in
+    let front = earliest_front xs (v ∷ []) o n (omega arith) in
     rw add-one (simp (here, front))
 
-earliest_none : (xs : List ℕ) (v n : ℕ) → latest xs v n ≡ 0 → earliest xs v n ≡ 0
-earliest_none xs v n z = eqb-true _ _ (earliest_latest xs v n ∙ eq-eqb _ _ z)
-
-earliest_some : (xs : List ℕ) (v n q : ℕ) → latest xs v n ≡ q + 1 → eqb (earliest xs v n) 0 ≡ false
-earliest_some xs v n q z = earliest_latest xs v n ∙ ne_eqb _ _ (λ e. omega (arith, e, z))
-
 -- What stays for another offset.
-other_first : (xs : List ℕ) (n v o : ℕ) → n < length xs → (v ≡ o → ⊥) → earliest (set xs n v) o (n + 1) ≡ earliest xs o n
-other_first xs n v o hn ne = earliest_push xs n v o hn ∙ by (cases_Bool (eqb (earliest xs o n) 0))
+other_first : (xs : List ℕ) (v o n : ℕ) → length xs ≡ n → (v ≡ o → ⊥) → earliest (xs ++ v ∷ []) o (n + 1) ≡ earliest xs o n
+other_first xs v o n e ne = earliest_push xs v o n e ∙ by (cases_Bool (eqb (earliest xs o n) 0))
   where
     by : (eqb (earliest xs o n) 0 ≡ true) ⊎ (eqb (earliest xs o n) 0 ≡ false) → cond (eqb (earliest xs o n) 0) (cond (eqb v o) (n + 1) 0) (earliest xs o n) ≡ earliest xs o n
     by (inl z) = cond-true _ _ _ z ∙ cond-false _ _ _ (ne_eqb _ _ ne) ∙ sym (eqb-true _ _ z)
     by (inr z) = cond-false _ _ _ z
 
-pub firsts_new : (m : ℕ) (first xs : List ℕ) (n v : ℕ) → n < length xs → v < length first → latest xs v n ≡ 0
-    → ((o : ℕ) → o < m → get_or first o 0 ≡ earliest xs o n)
-    → (o : ℕ) → o < m → get_or (set first v (n + 1)) o 0 ≡ earliest (set xs n v) o (n + 1)
-firsts_new m first xs n v hn hv z old o ho =
-    elim (cases_eq o v) [
-      | inl e ↦ rw e (get_or-set_same first v (n + 1) 0 hv
-          ∙ sym (earliest_push xs n v v hn ∙ cond-true _ _ _ (eq-eqb _ _ (earliest_none xs v n z)) ∙ cond-true _ _ _ (eq-eqb v v refl)))
-      | inr ne ↦ get_or-set_other first v o (n + 1) 0 ne ∙ old o ho ∙ sym (other_first xs n v o hn (λ e. ne (sym e)))
-    ]
+-- And for its own: what was first, or else the new one.
+own_first : (xs : List ℕ) (v n : ℕ) (o : Option ℕ) → length xs ≡ n → o ≡ linked (earliest xs v n) → Some (unwrap_or o n) ≡ linked (earliest (xs ++ v ∷ []) v (n + 1))
+own_first xs v n o e eo = ap (λ x. Some (unwrap_or x n)) eo ∙ by (earliest xs v n) ∙ sym (ap linked (earliest_push xs v v n e))
+  where
+    same : cond (eqb v v) (n + 1) 0 ≡ suc n
+    same = cond-true _ (n + 1) 0 (eq-eqb v v refl) ∙ add-one n
 
-pub firsts_again : (m : ℕ) (first xs : List ℕ) (n v q : ℕ) → n < length xs → latest xs v n ≡ q + 1
-    → ((o : ℕ) → o < m → get_or first o 0 ≡ earliest xs o n)
-    → (o : ℕ) → o < m → get_or first o 0 ≡ earliest (set xs n v) o (n + 1)
-firsts_again m first xs n v q hn z old o ho =
-    elim (cases_eq o v) [
-      | inl e ↦ old o ho ∙ rw e (sym (earliest_push xs n v v hn ∙ cond-false _ _ _ (earliest_some xs v n q z)))
-      | inr ne ↦ old o ho ∙ sym (other_first xs n v o hn (λ e. ne (sym e)))
-    ]
+    by : (k : ℕ) → Some (unwrap_or (linked k) n) ≡ linked (cond (eqb k 0) (cond (eqb v v) (n + 1) 0) k)
+    by zero = sym (ap linked same)
+    by (suc k) = sym (ap linked (cond-false _ _ _ (ne_eqb (suc k) 0 (λ q. omega arith))))
 
-fresh_push : (xs : List ℕ) (n v : ℕ) → n < length xs → fresh (set xs n v) (n + 1) ≡ cond (eqb (earliest xs v n) 0) (fresh xs n + 1) (fresh xs n)
-fresh_push xs n v hn =
-    let here = get_or-set_same xs n v 0 hn in
-    let front = earliest_agree (set xs n v) xs v n (λ p l. set_agree xs n v p l) in
-    let less = fresh_agree (set xs n v) xs n (λ p l. set_agree xs n v p l) in
-    rw add-one (simp (here, front, less))
+-- Where each entry shows the first place of its value.
+pub oldest_push : {A : Type 0} (f : A → Option ℕ) (xs : List ℕ) (m v n : ℕ) (table : List A) (y d : A) → length xs ≡ n → v < length table → v < m
+    → f y ≡ Some (unwrap_or (f (get_or table v d)) n)
+    → ((o : ℕ) → o < m → f (get_or table o d) ≡ linked (earliest xs o n))
+    → (o : ℕ) → o < m → f (get_or (set table v y) o d) ≡ linked (earliest (xs ++ v ∷ []) o (n + 1))
+oldest_push f xs m v n table y d e hv hm fy old =
+    table_push f (λ o. linked (earliest xs o n)) (λ o. linked (earliest (xs ++ v ∷ []) o (n + 1))) m v table y d hv
+    (λ o ne. ap linked (other_first xs v o n e ne))
+    (fy ∙ own_first xs v n (f (get_or table v d)) e (old v hm))
+    old
 
-pub fresh_new : (xs : List ℕ) (n v k : ℕ) → n < length xs → latest xs v n ≡ 0 → k ≡ fresh xs n → k + 1 ≡ fresh (set xs n v) (n + 1)
-fresh_new xs n v k hn z old = ap (λ i. i + 1) old ∙ sym (fresh_push xs n v hn ∙ cond-true _ _ _ (eq-eqb _ _ (earliest_none xs v n z)))
+-- The count of offsets rises where the offset has no first position.
+pub fresh_push : (xs : List ℕ) (v n d : ℕ) (o : Option ℕ) → length xs ≡ n → d ≡ fresh xs n → o ≡ linked (earliest xs v n)
+    → cond (is_some o) d (d + 1) ≡ fresh (xs ++ v ∷ []) (n + 1)
+fresh_push xs v n d o e ed eo = ap (λ x. cond (is_some x) d (d + 1)) eo ∙ by (earliest xs v n) ∙ sym more
+  where
+    more : fresh (xs ++ v ∷ []) (n + 1) ≡ cond (eqb (earliest xs v n) 0) (fresh xs n + 1) (fresh xs n)
+    more =
+        let here = get_or_push xs v 0 n e in
+        let front = earliest_front xs (v ∷ []) v n (omega arith) in
+        let less = fresh_front xs (v ∷ []) n (omega arith) in
+        rw add-one (simp (here, front, less))
 
-pub fresh_again : (xs : List ℕ) (n v k q : ℕ) → n < length xs → latest xs v n ≡ q + 1 → k ≡ fresh xs n → k ≡ fresh (set xs n v) (n + 1)
-fresh_again xs n v k q hn z old = old ∙ sym (fresh_push xs n v hn ∙ cond-false _ _ _ (earliest_some xs v n q z))
+    by : (k : ℕ) → cond (is_some (linked k)) d (d + 1) ≡ cond (eqb k 0) (fresh xs n + 1) (fresh xs n)
+    by zero = ap (λ i. i + 1) ed
+    by (suc k) = ed ∙ sym (cond-false _ _ _ (ne_eqb (suc k) 0 (λ q. omega arith)))
 
 -- Where the answers lie.
 earliest_le : (xs : List ℕ) (v n : ℕ) → earliest xs v n ≤ n

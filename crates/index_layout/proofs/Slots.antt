@@ -1,36 +1,19 @@
 -- Going through the slots. Assumes nothing.
---   slot_here, slot_next, slot_end   the search for a start, and slot_tells what its answer says
---   start_none, start_some   the start of a slot
---   best_skip .. best_more, best_end   the search for the first start from a number on
+--   slot_place               the search for a start, and slot_tells what its answer says
+--   best_skip .. best_more   the search for the first start from a number on
 --   struck_step, struck_end   a strike, slot by slot
-use Rattle.std.proofs.Common.{◌≡◌, ℕ, zero, suc, ◌+◌, ◌<◌, ◌≤◌, true, false, cond, ltb, ◌≢◌, ◌⊎◌, List, [], ◌∷◌, map, length, drop, set, is_some, Some, None, Option, sym, refl, ap, ◌∙◌, subst, inl, inr, arith, get_or-set_other, get_or-set_same, below_more, MatchOption}
-use Rattle.std.proofs.lemmas.List.{length-map, get_or-map, ext_get_or, at_drop_more, at_drop_all}
-use Rattle.std.proofs.lemmas.Bool.{cond-true, cond-false, cond_both, cases_Bool, both_ways}
-use Rattle.index_layout.specs.Views.{View, free_view, kept_view, view_at, first_in, next_in, Holds, slot_count, offset_count}
-use Rattle.index_layout.specs.Held.{holds, found, slot_from, slot_of, start_in, FirstFrom, BestBelow}
+use Rattle.std.proofs.Common.{◌≡◌, ℕ, zero, suc, ◌+◌, ◌<◌, ◌≤◌, true, false, cond, ◌≢◌, ◌⊎◌, List, [], ◌∷◌, map, length, set, is_some, Some, None, Option, sym, refl, ap, ◌∙◌, subst, inl, inr, arith, get_or-set_other, get_or-set_same, below_more, MatchOption}
+use Rattle.std.specs.List.{position_from}
+use Rattle.std.proofs.lemmas.List.{length-map, get_or-map, ext_get_or}
+use Rattle.std.proofs.lemmas.Bool.{cond-true, cond-false, cases_Bool, both_ways}
+use Rattle.index_layout.specs.Views.{View, free_view, kept_view, view_at, Holds}
+use Rattle.index_layout.specs.Held.{holds, found, slot_from, slot_of, BestBelow}
 use Rattle.index_layout.proofs.Held.{Nowhere, held_from, held_to}
 
--- The slot of a start.
-slot_step : (vs : List View) (i s : ℕ) → i < length vs
-    → slot_from i (drop i vs) s ≡ cond (holds s (view_at vs i)) (Some i) (slot_from (i + 1) (drop (i + 1) vs) s)
-slot_step vs i s l = at_drop_more (λ us. slot_from i us s) vs i free_view l
-
-pub slot_end : (vs : List View) (i s : ℕ) → length vs ≤ i → slot_from i (drop i vs) s ≡ None
-slot_end vs i s l = at_drop_all (λ us. slot_from i us s) vs i l
-
-pub slot_here : (vs : List View) (i s : ℕ) → i < length vs → holds s (view_at vs i) ≡ true → slot_from i (drop i vs) s ≡ slot_of vs s → Some i ≡ slot_of vs s
-slot_here vs i s l t inv = sym (sym inv ∙ slot_step vs i s l ∙ cond-true _ _ _ t)
-
-pub slot_next : (vs : List View) (i s : ℕ) → i < length vs → holds s (view_at vs i) ≡ false → slot_from i (drop i vs) s ≡ slot_of vs s
-    → slot_from (i + 1) (drop (i + 1) vs) s ≡ slot_of vs s
-slot_next vs i s l t inv = sym (slot_step vs i s l ∙ cond-false _ _ _ t) ∙ inv
-
--- The start of a slot.
-pub start_none : (vs : List View) (i : ℕ) → (view_at vs i).used ≡ false → None ≡ start_in vs i
-start_none vs i e = sym (cond-false _ (Some (view_at vs i).start) None e)
-
-pub start_some : (vs : List View) (i s : ℕ) → (view_at vs i).used ≡ true → (view_at vs i).start ≡ s → Some s ≡ start_in vs i
-start_some vs i s e es = sym (cond-true _ (Some (view_at vs i).start) None e ∙ ap (λ t. Some t) es)
+-- The slot of a start, as a place in a list of what the slots stand for.
+pub slot_place : {A : Type 0} (f : A → View) (xs : List A) (i s : ℕ) → position_from (λ x. holds s (f x)) i xs ≡ slot_from i (map f xs) s
+slot_place f [] i s = refl
+slot_place f (x ∷ xs) i s = ap (λ r. cond (holds s (f x)) (Some i) r) (slot_place f xs (i + 1) s)
 
 -- The slot i, k slots on.
 record Slot (vs : List View) (s k i : ℕ) : Type 0 where
@@ -86,13 +69,6 @@ pub slot_absent : (vs : List View) (s : ℕ) (r : Option ℕ) → r ≡ slot_of 
 slot_absent vs s None e h = slot_tells vs s None e
 slot_absent vs s (Some i) e h = absurd (both_ways true h refl)
 
--- What is found where no slot holds the start has no record.
-pub first_free : (vs : List View) (s o : ℕ) → found vs s ≡ free_view → None ≡ first_in (found vs s) o
-first_free vs s o e = cond_both (ltb o offset_count) _ _ (λ x. ◌≡◌ {A = Option ℕ} None x) (λ _. refl) (λ _. refl) ∙ ap (λ v. first_in v o) (sym e)
-
-pub next_free : (vs : List View) (s p : ℕ) → found vs s ≡ free_view → None ≡ next_in (found vs s) p
-next_free vs s p e = cond_both (ltb p 0) _ _ (λ x. ◌≡◌ {A = Option ℕ} None x) (λ _. refl) (λ _. refl) ∙ ap (λ v. next_in v p) (sym e)
-
 -- The first start from n on, among the slots below k.
 pub best_skip : (vs : List View) (n k : ℕ) (r : Option (ℕ × ℕ)) → BestBelow vs n k r → ((t : ℕ) → Holds vs k t → n ≤ t → ⊥) → BestBelow vs n (k + 1) r
 best_skip vs n k None h lack =
@@ -131,11 +107,6 @@ best_more vs n k s b h at low more =
       reached = low;
       first = λ j t l held le. below_more (λ j. (t : ℕ) → Holds vs j t → n ≤ t → s ≤ t) k (λ j l t held le. omega (arith, h.first j t l held le)) (λ t held le. omega (arith, sym held.1 ∙ at.1)) j l t held le;
     }
-
-pub best_end : (vs : List View) (n k : ℕ) (r : Option (ℕ × ℕ)) → k ≡ slot_count → BestBelow vs n k r → FirstFrom vs n r
-best_end vs n k None e h = λ j t l. h j t (omega arith)
-best_end vs n k (Some b) e h =
-    record { slot = omega (arith, h.slot); holds = h.holds; reached = h.reached; first = λ j t l. h.first j t (omega arith) }
 
 -- A strike: the slots below i are done.
 pub struck_step : (now0 now1 was : List View) (i min : ℕ) → i < length now0

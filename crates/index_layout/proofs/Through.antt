@@ -1,24 +1,20 @@
 -- A list of structs by what each stands for: f gives the view of one. Assumes nothing.
 --   at_view      one of them, by its view; d is whatever default the goal has
 --   put_view     one of them replaced
---   add_views    one of them grown, or left; apart_add, apart_open and apart_free: the starts stay apart
---   strike_none, strike_views, strike_count   one slot of a strike
-use Rattle.std.proofs.Common.{◌≡◌, ℕ, ◌<◌, ◌≤◌, Bool, true, false, cond, ◌&&◌, ltb, List, map, length, get_or, set, sym, refl, ap, ◌∙◌, subst, arith}
-use Rattle.std.proofs.lemmas.List.{length-map, map-set, get_or-map, get_or_past, set-get_or}
-use Rattle.std.proofs.lemmas.Bool.{cond-true, cond-false}
-use Rattle.index_layout.specs.Views.{View, free_view, open_view, grown, goes, kept_view, view_at, Holds, Apart}
+--   add_views    one of them grown, or left; apart_add and apart_open: the starts stay apart
+--   gone_weight   what a strike hands out of a slot counts
+use Rattle.std.proofs.Common.{◌≡◌, ℕ, ◌<◌, Bool, true, false, cond, ◌&&◌, ltb, List, map, length, get_or, set, sym, refl, ap, ◌∙◌, subst, arith}
+use Rattle.std.proofs.lemmas.List.{length-map, map-set, get_or-map, set-get_or}
+use Rattle.std.proofs.lemmas.Bool.{cond-true, and_parts}
+use Rattle.index_layout.specs.Views.{View, free_view, open_view, grown, goes, view_at, Holds, Apart}
 use Rattle.index_layout.specs.Held.{weight, under}
-use Rattle.index_layout.proofs.Apart.{apart_freed, apart_opened, apart_same}
+use Rattle.index_layout.proofs.Apart.{apart_opened, apart_same}
 
 pub length_views : {A : Type 0} (f : A → View) (xs : List A) (n : ℕ) → length xs ≡ n → length (map f xs) ≡ n
 length_views f xs n e = length-map xs f ∙ e
 
 pub at_view : {A : Type 0} (f : A → View) (xs : List A) (i : ℕ) (d : A) → i < length xs → view_at (map f xs) i ≡ f (get_or xs i d)
 at_view f xs i d h = get_or-map f xs i d free_view h
-
--- Past the end.
-pub past_view : {A : Type 0} (f : A → View) (xs : List A) (i : ℕ) → length xs ≤ i → view_at (map f xs) i ≡ free_view
-past_view f xs i h = let n = length-map xs f in get_or_past (map f xs) i free_view (omega arith)
 
 pub put_view : {A : Type 0} (f : A → View) (xs : List A) (i : ℕ) (y : A) (w : View) → f y ≡ w → map f (set xs i y) ≡ set (map f xs) i w
 put_view f xs i y w e = map-set f xs i y ∙ ap (λ v. set (map f xs) i v) e
@@ -59,44 +55,18 @@ apart_open f xs i s y h e none apart =
     let n : length (map f xs) ≡ length xs = length-map xs f in
     subst Apart (sym (put_view f xs i y _ e)) (apart_opened (map f xs) i s (omega arith) (λ k l. none k (omega arith)) apart)
 
-pub apart_free : {A : Type 0} (f : A → View) (xs : List A) (i : ℕ) (y : A) → i < length xs → f y ≡ free_view → Apart (map f xs) → Apart (map f (set xs i y))
-apart_free f xs i y h e apart =
-    let n : length (map f xs) ≡ length xs = length-map xs f in
-    subst Apart (sym (put_view f xs i y _ e)) (apart_freed (map f xs) i (omega arith) apart)
-
 -- What a strike by a minimum makes of a slot, and what it counts there.
-pub weighs : (m : ℕ) (h : View → ℕ) (v : View) → weight (under m h) v ≡ cond (goes m v) (h v) 0
+weighs : (m : ℕ) (h : View → ℕ) (v : View) → weight (under m h) v ≡ cond (goes m v) (h v) 0
 weighs m h v = by v.used (ltb v.start m)
   where
     by : (a b : Bool) → cond a (cond b (h v) 0) 0 ≡ cond (a && b) (h v) 0
     by true b = refl
     by false b = refl
 
-pub strike_none : {A : Type 0} (f : A → View) (xs : List A) (i m : ℕ) (d : A) (h : View → ℕ) → i < length xs → goes m (f (get_or xs i d)) ≡ false
-    → (map f xs ≡ set (map f xs) i (kept_view m (view_at (map f xs) i))) × (0 ≡ weight (under m h) (view_at (map f xs) i))
-strike_none f xs i m d h l e =
-    let g : goes m (view_at (map f xs) i) ≡ false = ap (goes m) (at_view f xs i d l) ∙ e in (
-      sym (ap (λ v. set (map f xs) i v) (cond-false _ free_view (view_at (map f xs) i) g) ∙ set-get_or (map f xs) i free_view),
-      sym (weighs m h (view_at (map f xs) i) ∙ cond-false _ (h (view_at (map f xs) i)) 0 g),
-    )
-
-pub strike_views : {A : Type 0} (f : A → View) (xs : List A) (i m : ℕ) (d y : A) → i < length xs → goes m (f (get_or xs i d)) ≡ true → f y ≡ free_view
-    → map f (set xs i y) ≡ set (map f xs) i (kept_view m (view_at (map f xs) i))
-strike_views f xs i m d y l e ey =
-    let g : goes m (view_at (map f xs) i) ≡ true = ap (goes m) (at_view f xs i d l) ∙ e in
-    put_view f xs i y _ (ey ∙ sym (cond-true _ free_view (view_at (map f xs) i) g))
-
-pub strike_count : {A : Type 0} (f : A → View) (xs : List A) (i m n : ℕ) (d d' : A) (h : View → ℕ) → i < length xs → goes m (f (get_or xs i d)) ≡ true
-    → n ≡ h (f (get_or xs i d')) → n ≡ weight (under m h) (view_at (map f xs) i)
-strike_count f xs i m n d d' h l e en =
-    let g : goes m (view_at (map f xs) i) ≡ true = ap (goes m) (at_view f xs i d l) ∙ e in
-    en ∙ sym (weighs m h (view_at (map f xs) i) ∙ cond-true _ (h (view_at (map f xs) i)) 0 g ∙ ap h (at_view f xs i d' l))
-
--- What a slot counts.
-pub weigh_none : {A : Type 0} (f : A → View) (xs : List A) (i : ℕ) (d : A) (h : View → ℕ) → i < length xs → (f (get_or xs i d)).used ≡ false → 0 ≡ weight h (view_at (map f xs) i)
-weigh_none f xs i d h l e = sym (cond-false _ (h (view_at (map f xs) i)) 0 (ap (λ v. v.used) (at_view f xs i d l) ∙ e))
-
-pub weigh_used : {A : Type 0} (f : A → View) (xs : List A) (i n : ℕ) (d d' : A) (h : View → ℕ) → i < length xs → (f (get_or xs i d)).used ≡ true
-    → n ≡ h (f (get_or xs i d')) → n ≡ weight h (view_at (map f xs) i)
-weigh_used f xs i n d d' h l e en =
-    en ∙ sym (cond-true _ (h (view_at (map f xs) i)) 0 (ap (λ v. v.used) (at_view f xs i d l) ∙ e) ∙ ap h (at_view f xs i d' l))
+-- And what it hands out counts as much.
+pub gone_weight : (m : ℕ) (h : View → ℕ) (v : View) → weight h (cond (goes m v) v free_view) ≡ weight (under m h) v
+gone_weight m h v = by (goes m v) refl ∙ sym (weighs m h v)
+  where
+    by : (b : Bool) → goes m v ≡ b → weight h (cond b v free_view) ≡ cond b (h v) 0
+    by true e = cond-true v.used (h v) 0 (and_parts v.used (ltb v.start m) e).0
+    by false e = refl

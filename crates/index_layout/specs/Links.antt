@@ -1,5 +1,6 @@
 -- Links: numbers that name a place in a list, one more than the place, with 0 for none.
 --   linked k              the place that the link k names
+--   link o                the link that names the place o, or none
 --   earliest xs v n       the first place below n where xs has v
 --   latest xs v n         the last one
 --   following xs p n      the first place above p and below n where xs has what it has at p
@@ -11,6 +12,10 @@ use Rattle.std.specs.Prelude.{ℕ, zero, suc, ◌+◌, cond, ◌&&◌, List, Som
 abbrev pub linked : ℕ → Option ℕ
 linked zero = None
 linked (suc n) = Some n
+
+abbrev pub link : Option ℕ → ℕ
+link None = 0
+link (Some n) = suc n
 
 abbrev pub earliest : List ℕ → ℕ → ℕ → ℕ
 earliest xs v zero = 0

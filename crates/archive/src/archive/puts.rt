@@ -1,17 +1,14 @@
 // Calls that change what is kept: put, put_multi and prune; and the counts of it.
 
-ghost use Rattle.std.specs.Prelude.{◌≡◌, true, false, not, ◌&&◌, is_some};
-ghost use Rattle.rules.specs.State.{or_zero};
-ghost use Rattle.rules.specs.Calls.{put_answer, put_after, floor_reaches, prune_answer, prune_after, counts_answer};
-ghost use Rattle.index_layout.specs.Views.{first_in};
-ghost use Rattle.index_layout.specs.Held.{found};
-ghost use Rattle.index.specs.Slots.{views};
-ghost use Rattle.archive.specs.Archives.{Does, Tells};
+ghost use Rattle.std.specs.Prelude.{◌≡◌, ℕ, true, false, Some};
+ghost use Rattle.journal.specs.Calls.{append_answer, appended};
+ghost use Rattle.rules.specs.State.{section_of};
+ghost use Rattle.rules.specs.Calls.{stored_by, with_journal, put_answer, put_after, floor_reaches, prune_answer, prune_after, counts_answer};
+ghost use Rattle.archive.specs.Archives.{Does, Tells, home_of};
 
 use crate::archive::Archive;
 use crate::loading::no_room;
-use crate::wanted::coded;
-use index::index::Index;
+use crate::wanted::Wanted;
 use journal::Journal;
 use journal::row::Label;
 use keys::kind::Key;
@@ -20,66 +17,36 @@ use rules::answer::{Counts, Pruned, Put};
 use rules::fault::ArchiveFault;
 use rules::rounding::section_of;
 
-// No floor counts as 0.
-fn floor_number(floor: Option<u64>) -> u64
-    ensures { result ≡ or_zero floor }
-{
-    match floor {
-        Some(f) => f,
-        None => 0,
-    }
-}
-
-// Whether the floor is at a start or above it.
-fn is_reached(floor: Option<u64>, start: u64) -> bool
-    ensures { result ≡ floor_reaches floor start }
-{
-    match floor {
-        Some(f) => start <= f,
-        None => false,
-    }
-}
-
-// Whether a put that is not of the multiple kind finds its number there.
-fn is_taken(index: &Index, multi: bool, start: u64, offset: u64) -> bool
-    ensures { result ≡ (not multi && is_some (first_in (found (views index.now) start) offset)) }
-{
-    if multi {
-        return false;
-    }
-    index.first_of(start, offset).is_some()
-}
-
 impl<J: Journal, T: Translator, K: Key> Archive<J, T, K> {
-    // A put of either kind. What the journal takes the index has room for.
-    fn store(
-        &mut self,
-        multi: bool,
-        label: Label,
-        key: &K,
-        value: &[u8],
-    ) -> Result<Put, ArchiveFault>
-        ensures { Does J.fits J.meaning T.translated T.hashed K.W self.old self.new (λ s x. x ≡ put_answer s multi label (K.bytes key.now) value.now) (λ s. put_after s multi label (K.bytes key.now) value.now) result }
+    // Where the section of a number that is to be stored starts; none where the number is below the floor.
+    fn home_of(&self, number: u64) -> Result<Option<u64>, ArchiveFault>
+        ensures { result ≡ home_of self.now.size self.now.floor number }
     {
         let Some(size) = self.size else {
             return Err(ArchiveFault::NotLoaded);
         };
-        let number = label.number;
-        if number < floor_number(self.floor) {
-            return Ok(Put::BelowFloor);
+        if number < self.floor.unwrap_or(0) {
+            return Ok(None);
         }
-        let start = section_of(size, number);
-        let offset = number.saturating_sub(start);
-        if is_taken(&self.index, multi, start, offset) {
-            return Ok(Put::AlreadyThere);
-        }
-        let wanted = coded(&self.translator, key);
-        let position = self
-            .journal
-            .append(start, label, &wanted.bytes[0..wanted.width], value)?;
-        if !self.index.note(start, offset, wanted.code, wanted.hash) {
-            return Err(no_room(start));
-        }
+        Ok(Some(section_of(size, number)))
+    }
+
+    // One record more in the section of its number. What the journal takes the index has room for.
+    fn store(
+        &mut self,
+        start: u64,
+        label: Label,
+        key: &K,
+        value: &[u8],
+    ) -> Result<Put, ArchiveFault>
+        ensures { (l : ℕ) → self.old.size ≡ Some l → start ≡ section_of l label.number → Does J.fits J.meaning T.translated T.hashed K.W self.old self.new (λ s x. x ≡ stored_by start (append_answer s.journal start (K.bytes key.now) value.now)) (λ s. with_journal s (appended s.journal start label (K.bytes key.now) value.now)) result }
+    {
+        let wanted = Wanted::new(&self.translator, key);
+        let position = self.journal.append(start, label, wanted.key, value)?;
+        let offset = label.number.saturating_sub(start);
+        self.index
+            .note(start, offset, wanted.coded)
+            .map_err(|_| no_room(start))?;
         Ok(Put::Stored {
             section: start,
             position,
@@ -90,7 +57,14 @@ impl<J: Journal, T: Translator, K: Key> Archive<J, T, K> {
     pub(crate) fn put(&mut self, label: Label, key: &K, value: &[u8]) -> Result<Put, ArchiveFault>
         ensures { Does J.fits J.meaning T.translated T.hashed K.W self.old self.new (λ s x. x ≡ put_answer s false label (K.bytes key.now) value.now) (λ s. put_after s false label (K.bytes key.now) value.now) result }
     {
-        self.store(false, label, key, value)
+        let Some(start) = self.home_of(label.number)? else {
+            return Ok(Put::BelowFloor);
+        };
+        let offset = label.number.saturating_sub(start);
+        if self.index.first_of(start, offset).is_some() {
+            return Ok(Put::AlreadyThere);
+        }
+        self.store(start, label, key, value)
     }
 
     /// Stores a record, unless its number is below the floor; others may have the number too.
@@ -102,7 +76,10 @@ impl<J: Journal, T: Translator, K: Key> Archive<J, T, K> {
     ) -> Result<Put, ArchiveFault>
         ensures { Does J.fits J.meaning T.translated T.hashed K.W self.old self.new (λ s x. x ≡ put_answer s true label (K.bytes key.now) value.now) (λ s. put_after s true label (K.bytes key.now) value.now) result }
     {
-        self.store(true, label, key, value)
+        let Some(start) = self.home_of(label.number)? else {
+            return Ok(Put::BelowFloor);
+        };
+        self.store(start, label, key, value)
     }
 
     /// Strikes the sections below a minimum, which is rounded down to a section's start.
@@ -113,7 +90,7 @@ impl<J: Journal, T: Translator, K: Key> Archive<J, T, K> {
             return Err(ArchiveFault::NotLoaded);
         };
         let start = section_of(size, min);
-        if is_reached(self.floor, start) {
+        if self.floor.is_some_and(|floor| start <= floor) {
             return Ok(Pruned::Unchanged);
         }
         let _ = self.journal.prune(start);

@@ -1,13 +1,16 @@
 // What the index does: slots found, taken and struck, records noted and looked for.
 
-ghost use Rattle.std.specs.Prelude.{◌≡◌, ℕ, ◌+◌, ◌*◌, ◌/◌, ◌%◌, ◌^◌, ◌<◌, ◌≤◌, true, false, ◌&&◌, map, IfSome, if◌then◌else◌, MatchOption, slice_set};
-ghost use Rattle.index_layout.specs.Views.{free_view, grown, takes, bucket_of, kept_view, view_at, first_in, next_in, newest_in, older_in};
-ghost use Rattle.index_layout.specs.Held.{found, slot_of, FirstFrom, BestBelow, Shut, Opened, start_in, has_room, Noted, Seated, total, weight, under, numbers, records, in_slot};
-ghost use Rattle.index.specs.Slots.{views, no_views};
+ghost use Rattle.std.specs.Prelude.{◌≡◌, ℕ, ◌+◌, ◌*◌, ◌/◌, ◌%◌, ◌^◌, ◌<◌, ◌≤◌, true, false, ◌&&◌, map, is_ok, IfSome, if◌then◌else◌, MatchOption, slice_set};
+ghost use Rattle.std.specs.Option.{option_copied};
+ghost use Rattle.index_layout.specs.Views.{free_view, grown, takes, goes, bucket_of, kept_view, view_at, first_in, next_in, newest_in, older_in};
+ghost use Rattle.index_layout.specs.Held.{found, slot_of, FirstFrom, Shut, Opened, start_in, has_room, Noted, Seated, total, weight, under, numbers, records, in_slot};
+ghost use Rattle.index.specs.Slots.{views, no_views, nearer};
+ghost use Rattle.index.specs.Viewed.{slot_view};
 
-use crate::handle::unpack;
+use crate::handle::{POSITIONS, unpack};
 use crate::index::{Index, Tally};
-use crate::section::Section;
+use crate::key_code::KeyCode;
+use crate::section::{NoRoom, Section};
 
 /// A position in a slot as a handle.
 fn in_slot(slot: usize, position: Option<u64>) -> Option<u64>
@@ -15,10 +18,44 @@ fn in_slot(slot: usize, position: Option<u64>) -> Option<u64>
     ensures is { result ≡ in_slot slot position }
     ensures parts { IfSome result (λ h. (h / 2 ^ 40 ≡ slot) × (h % 2 ^ 40 < 128)) }
 {
-    match position {
-        Some(p) => Some(slot as u64 * 1_099_511_627_776 + p),
-        None => None,
+    position.map(|p| slot as u64 * POSITIONS + p)
+}
+
+/// The nearer to a number of the best so far and what a slot more holds.
+fn nearer(
+    best: Option<(usize, u64)>,
+    from: u64,
+    slot: usize,
+    held: &Option<Section>,
+) -> Option<(usize, u64)>
+    ensures { result ≡ nearer best from slot (slot_view held.now) }
+{
+    match (held, best) {
+        (Some(section), None) if section.reaches(from) => Some((slot, section.start())),
+        (Some(section), Some((_, start))) if section.reaches(from) && section.start() < start => {
+            Some((slot, section.start()))
+        }
+        _ => best,
     }
+}
+
+/// One more record in a slot, where it holds a section that takes it.
+fn add_in(slot: &mut Option<Section>, offset: u64, key: KeyCode) -> Result<(), NoRoom>
+    ensures is { is_ok result ≡ ((slot_view slot.old).used && takes (slot_view slot.old) offset) }
+    ensures view { slot_view slot.new ≡ (if is_ok result then grown (slot_view slot.old) offset key.code (bucket_of key.hash) else slot_view slot.old) }
+{
+    match slot {
+        Some(section) => section.add(offset, key),
+        None => Err(NoRoom),
+    }
+}
+
+/// Frees a slot whose section begins below a minimum, and hands that out.
+fn take_below(slot: &mut Option<Section>, min: u64) -> Option<Section>
+    ensures left { slot_view slot.new ≡ kept_view min (slot_view slot.old) }
+    ensures taken { slot_view result ≡ (if goes min (slot_view slot.old) then slot_view slot.old else free_view) }
+{
+    slot.take_if(|section| section.is_below(min))
 }
 
 impl Index {
@@ -26,7 +63,7 @@ impl Index {
         ensures views { views result ≡ no_views }
     {
         Index {
-            sections: [Section::free(); 16],
+            slots: Default::default(),
         }
     }
 
@@ -34,7 +71,7 @@ impl Index {
     pub fn clear(&mut self)
         ensures views { views self.new ≡ no_views }
     {
-        self.sections = [Section::free(); 16];
+        self.slots = Default::default();
     }
 
     /// The slot of a start.
@@ -42,65 +79,39 @@ impl Index {
         ensures is { result ≡ slot_of (views self.now) start }
         ensures below { IfSome result (λ i. i < 16) }
     {
-        for i in 0..16 {
-            if self.sections[i].holds(start) {
-                return Some(i);
-            }
-        }
-        None
+        self.slots.iter().position(|slot| slot.as_ref().is_some_and(|section| section.holds(start)))
+    }
+
+    /// The section that begins at a start.
+    fn find(&self, start: u64) -> Option<&Section>
+        ensures { slot_view (option_copied result) ≡ found (views self.now) start }
+    {
+        self.slots[self.slot_of(start)?].as_ref()
     }
 
     /// The start that a slot holds.
     pub fn start_of(&self, slot: usize) -> Option<u64>
         ensures is { result ≡ start_in (views self.now) slot }
     {
-        if slot >= 16 {
-            return None;
-        }
-        if !self.sections[slot].is_used() {
-            return None;
-        }
-        Some(self.sections[slot].start())
+        let section = self.slots.get(slot)?.as_ref()?;
+        Some(section.start())
     }
 
     /// The first section that begins at a number or above: its slot and its start.
     pub fn first_from(&self, from: u64) -> Option<(usize, u64)>
         ensures is { FirstFrom (views self.now) from result }
     {
-        let mut best = None;
-        for i in 0..16 {
-            best = self.nearer(i, from, best);
-        }
-        best
-    }
-
-    /// The nearer of the best so far and one slot more.
-    fn nearer(&self, slot: usize, from: u64, best: Option<(usize, u64)>) -> Option<(usize, u64)>
-        requires { (slot < 16) × (BestBelow (views self.now) from slot best) }
-        ensures { BestBelow (views self.now) from (slot + 1) result }
-    {
-        if !self.sections[slot].reaches(from) {
-            return best;
-        }
-        let start = self.sections[slot].start();
-        if let Some((_, s)) = best {
-            if s <= start {
-                return best;
-            }
-        }
-        Some((slot, start))
+        self.slots
+            .iter()
+            .enumerate()
+            .fold(None, |best, (i, slot)| nearer(best, from, i, slot))
     }
 
     /// A free slot.
     fn free_slot(&self) -> Option<usize>
         ensures { MatchOption result ((k : ℕ) → k < 16 → (view_at (views self.now) k).used ≡ true) (λ i. (i < 16) × ((view_at (views self.now) i).used ≡ false)) }
     {
-        for i in 0..16 {
-            if !self.sections[i].is_used() {
-                return Some(i);
-            }
-        }
-        None
+        self.slots.iter().position(|slot| slot.is_none())
     }
 
     /// Takes a free slot for a start that none holds.
@@ -111,40 +122,38 @@ impl Index {
             return None;
         }
         let slot = self.free_slot()?;
-        self.sections[slot] = Section::open(start);
+        self.slots[slot] = Some(Section::open(start));
         Some(slot)
     }
 
-    /// One more record in a slot, where it goes in; tells whether it did.
-    pub fn add(&mut self, slot: usize, offset: u64, code: u64, hash: u64) -> bool
-        ensures is { result ≡ ((view_at (views self.old) slot).used && takes (view_at (views self.old) slot) offset) }
-        ensures views { views self.new ≡ (if result then slice_set (views self.old) slot (grown (view_at (views self.old) slot) offset code (bucket_of hash)) else views self.old) }
+    /// One more record in a slot, where it goes in.
+    pub fn add(&mut self, slot: usize, offset: u64, key: KeyCode) -> Result<(), NoRoom>
+        ensures is { is_ok result ≡ ((view_at (views self.old) slot).used && takes (view_at (views self.old) slot) offset) }
+        ensures views { views self.new ≡ (if is_ok result then slice_set (views self.old) slot (grown (view_at (views self.old) slot) offset key.code (bucket_of key.hash)) else views self.old) }
     {
         if slot >= 16 {
-            return false;
+            return Err(NoRoom);
         }
-        let all = &mut self.sections;
-        all[slot].add(offset, code, hash)
+        add_in(&mut self.slots[slot], offset, key)
     }
 
-    /// One more record of the section that begins at a start, for which a slot is taken where none holds it;
-    /// tells whether there was room.
-    pub fn note(&mut self, start: u64, offset: u64, code: u64, hash: u64) -> bool
-        ensures is { result ≡ has_room (views self.old) start offset }
-        ensures starts { result ≡ true → Noted (views self.old) (views self.new) start offset code (bucket_of hash) }
-        ensures slots { result ≡ true → Seated (views self.old) (views self.new) start offset code (bucket_of hash) }
-        ensures kept { result ≡ false → views self.new ≡ views self.old }
+    /// One more record of the section that begins at a start, for which a slot is taken where none holds it.
+    pub fn note(&mut self, start: u64, offset: u64, key: KeyCode) -> Result<(), NoRoom>
+        ensures is { is_ok result ≡ has_room (views self.old) start offset }
+        ensures starts { is_ok result ≡ true → Noted (views self.old) (views self.new) start offset key.code (bucket_of key.hash) }
+        ensures slots { is_ok result ≡ true → Seated (views self.old) (views self.new) start offset key.code (bucket_of key.hash) }
+        ensures kept { is_ok result ≡ false → views self.new ≡ views self.old }
     {
         if offset >= 64 {
-            return false;
+            return Err(NoRoom);
         }
         if let Some(slot) = self.slot_of(start) {
-            return self.add(slot, offset, code, hash);
+            return self.add(slot, offset, key);
         }
-        match self.open(start) {
-            Some(slot) => self.add(slot, offset, code, hash),
-            None => false,
-        }
+        let Some(slot) = self.open(start) else {
+            return Err(NoRoom);
+        };
+        self.add(slot, offset, key)
     }
 
     /// The first position of an offset in the section that begins at a start.
@@ -152,10 +161,7 @@ impl Index {
         ensures is { result ≡ first_in (found (views self.now) start) offset }
         ensures within { IfSome result (λ p. p < 128) }
     {
-        match self.slot_of(start) {
-            Some(slot) => self.sections[slot].first_of(offset),
-            None => None,
-        }
+        self.find(start)?.first_of(offset)
     }
 
     /// The next position with the number of one, in the section that begins at a start.
@@ -163,59 +169,27 @@ impl Index {
         ensures is { result ≡ next_in (found (views self.now) start) position }
         ensures within { IfSome result (λ p. (position < p) × (p < 128)) }
     {
-        match self.slot_of(start) {
-            Some(slot) => self.sections[slot].next_of(position),
-            None => None,
-        }
+        self.find(start)?.next_of(position)
     }
 
     /// The newest record of a slot with this translated key and hash, by its handle.
-    pub fn newest(&self, slot: usize, code: u64, hash: u64) -> Option<u64>
-        ensures is { result ≡ in_slot slot (newest_in (view_at (views self.now) slot) code (bucket_of hash)) }
+    pub fn newest(&self, slot: usize, key: KeyCode) -> Option<u64>
+        ensures is { result ≡ in_slot slot (newest_in (view_at (views self.now) slot) key.code (bucket_of key.hash)) }
         ensures within { IfSome result (λ h. (h / 2 ^ 40 ≡ slot) × (h % 2 ^ 40 < 128)) }
     {
-        if slot >= 16 {
-            return None;
-        }
-        in_slot(slot, self.sections[slot].newest(code, hash))
+        let section = self.slots.get(slot)?.as_ref()?;
+        in_slot(slot, section.newest(key))
     }
 
     /// The next older one, after a record with the hash.
-    pub fn older(&self, handle: u64, code: u64, hash: u64) -> Option<u64>
-        ensures is { result ≡ in_slot (handle / 2 ^ 40) (older_in (view_at (views self.now) (handle / 2 ^ 40)) code (bucket_of hash) (handle % 2 ^ 40)) }
+    pub fn older(&self, handle: u64, key: KeyCode) -> Option<u64>
+        ensures is { result ≡ in_slot (handle / 2 ^ 40) (older_in (view_at (views self.now) (handle / 2 ^ 40)) key.code (bucket_of key.hash) (handle % 2 ^ 40)) }
         ensures within { IfSome result (λ h. (h / 2 ^ 40 ≡ handle / 2 ^ 40) × (h % 2 ^ 40 < 128)) }
         ensures falls { IfSome result (λ h. h < handle) }
     {
         let (slot, position) = unpack(handle);
-        if slot >= 16 {
-            return None;
-        }
-        in_slot(
-            slot as usize,
-            self.sections[slot as usize].older(position, code, hash),
-        )
-    }
-
-    /// What a strike by a minimum takes of a slot.
-    fn strike_slot(&mut self, slot: usize, min: u64) -> Tally
-        requires { slot < 16 }
-        ensures views { views self.new ≡ slice_set (views self.old) slot (kept_view min (view_at (views self.old) slot)) }
-        ensures numbers { result.numbers ≡ weight (under min numbers) (view_at (views self.old) slot) }
-        ensures records { result.records ≡ weight (under min records) (view_at (views self.old) slot) }
-        ensures few { (result.numbers ≤ 128) × (result.records ≤ 128) }
-    {
-        if !self.sections[slot].is_below(min) {
-            return Tally {
-                numbers: 0,
-                records: 0,
-            };
-        }
-        let struck = Tally {
-            numbers: self.sections[slot].distinct(),
-            records: self.sections[slot].len(),
-        };
-        self.sections[slot] = Section::free();
-        struck
+        let section = self.slots.get(slot as usize)?.as_ref()?;
+        in_slot(slot as usize, section.older(position, key))
     }
 
     /// Frees the slots of the sections that begin below a minimum, and counts what goes with them.
@@ -225,33 +199,11 @@ impl Index {
         ensures records { result.records ≡ total (under min records) (views self.old) }
         ensures few { (result.numbers ≤ 2048) × (result.records ≤ 2048) }
     {
-        let mut numbers = 0;
-        let mut records = 0;
-        for i in 0..16 {
-            let struck = self.strike_slot(i, min);
-            numbers += struck.numbers;
-            records += struck.records;
+        let mut struck = Tally::default();
+        for slot in self.slots.iter_mut() {
+            struck.add(&take_below(slot, min));
         }
-        Tally { numbers, records }
-    }
-
-    /// What a slot counts.
-    fn weigh(&self, slot: usize) -> Tally
-        requires { slot < 16 }
-        ensures numbers { result.numbers ≡ weight numbers (view_at (views self.now) slot) }
-        ensures records { result.records ≡ weight records (view_at (views self.now) slot) }
-        ensures few { (result.numbers ≤ 128) × (result.records ≤ 128) }
-    {
-        if !self.sections[slot].is_used() {
-            return Tally {
-                numbers: 0,
-                records: 0,
-            };
-        }
-        Tally {
-            numbers: self.sections[slot].distinct(),
-            records: self.sections[slot].len(),
-        }
+        struck
     }
 
     /// How many different numbers and how many records there are.
@@ -260,13 +212,25 @@ impl Index {
         ensures records { result.records ≡ total records (views self.now) }
         ensures few { (result.numbers ≤ 2048) × (result.records ≤ 2048) }
     {
-        let mut numbers = 0;
-        let mut records = 0;
-        for i in 0..16 {
-            let slot = self.weigh(i);
-            numbers += slot.numbers;
-            records += slot.records;
+        let mut kept = Tally::default();
+        for slot in &self.slots {
+            kept.add(slot);
         }
-        Tally { numbers, records }
+        kept
+    }
+}
+
+impl Tally {
+    /// A slot more.
+    fn add(&mut self, slot: &Option<Section>)
+        requires { (self.old.numbers < 2 ^ 32) × (self.old.records < 2 ^ 32) }
+        ensures numbers { self.new.numbers ≡ self.old.numbers + weight numbers (slot_view slot.now) }
+        ensures records { self.new.records ≡ self.old.records + weight records (slot_view slot.now) }
+        ensures few { (self.new.numbers ≤ self.old.numbers + 128) × (self.new.records ≤ self.old.records + 128) }
+    {
+        if let Some(section) = slot {
+            self.numbers += section.distinct();
+            self.records += section.len();
+        }
     }
 }

@@ -1,54 +1,31 @@
-// What a slot of the index does.
+// What a section of the index does.
 
-ghost use Rattle.std.specs.Prelude.{◌≡◌, ℕ, ◌+◌, ◌-◌, ◌%◌, ◌<◌, ◌≤◌, true, false, ◌&&◌, length, IfSome, if◌then◌else◌, ◌==◌, nat_lt, slice_index};
-ghost use Rattle.index_layout.specs.Links.{latest, linked, matching};
-ghost use Rattle.index_layout.specs.Views.{free_view, open_view, grown, takes, goes, bucket_of, first_in, next_in, newest_in, older_in};
+ghost use Rattle.std.specs.Prelude.{◌≡◌, ℕ, ◌+◌, ◌-◌, ◌%◌, ◌<◌, ◌≤◌, true, false, ◌&&◌, length, IfSome, is_ok, if◌then◌else◌, ◌==◌, nat_lt, slice_index};
+ghost use Rattle.arrayvec.specs.ArrayVec.{array_vec_len};
+ghost use Rattle.index_layout.specs.Links.{latest, link, linked, matching};
+ghost use Rattle.index_layout.specs.Views.{open_view, grown, takes, goes, bucket_of, first_in, next_in, newest_in, older_in};
 ghost use Rattle.index_layout.specs.Held.{holds, numbers, records};
+ghost use Rattle.index.specs.Rows.{buckets_of, codes_of, Leads};
 ghost use Rattle.index.specs.Viewed.{viewed, reaches};
 
-use crate::buckets::Buckets;
-use crate::numbers::Numbers;
-use crate::section::Section;
-
-/// The bucket of a hash.
-fn bucket_of(hash: u64) -> u8
-    ensures is { result ≡ bucket_of hash }
-    ensures below { result < 128 }
-{
-    (hash % 128) as u8
-}
+use crate::key_code::KeyCode;
+use crate::row::ops::follow;
+use crate::row::{Ends, Row};
+use crate::section::{NoRoom, Section};
+use arrayvec::ArrayVec;
 
 impl Section {
-    /// A free slot.
-    pub fn free() -> Section
-        ensures { viewed result ≡ free_view }
-    {
-        Section {
-            start: 0,
-            used: false,
-            codes: [0; 128],
-            numbers: Numbers::new(),
-            buckets: Buckets::new(),
-        }
-    }
-
-    /// A slot taken for a start.
+    /// A section that begins at a start, with no record.
     pub fn open(start: u64) -> Section
         ensures { viewed result ≡ open_view start }
     {
         Section {
             start,
-            used: true,
-            codes: [0; 128],
-            numbers: Numbers::new(),
-            buckets: Buckets::new(),
+            distinct: 0,
+            rows: ArrayVec::new(),
+            numbers: [None; 64],
+            heads: [None; 128],
         }
-    }
-
-    pub fn is_used(&self) -> bool
-        ensures { result ≡ (viewed self.now).used }
-    {
-        self.used
     }
 
     pub fn start(&self) -> u64
@@ -57,25 +34,25 @@ impl Section {
         self.start
     }
 
-    /// Whether it holds the section that begins at a start.
+    /// Whether it begins at a start.
     pub fn holds(&self, start: u64) -> bool
         ensures { result ≡ holds start (viewed self.now) }
     {
-        self.used && self.start == start
+        self.start == start
     }
 
-    /// Whether it holds a section that begins at a number or above.
+    /// Whether it begins at a number or above.
     pub fn reaches(&self, from: u64) -> bool
         ensures { result ≡ reaches from (viewed self.now) }
     {
-        self.used && self.start >= from
+        self.start >= from
     }
 
     /// Whether a strike by a minimum takes it.
     pub fn is_below(&self, min: u64) -> bool
         ensures { result ≡ goes min (viewed self.now) }
     {
-        self.used && self.start < min
+        self.start < min
     }
 
     /// How many records it has.
@@ -83,7 +60,7 @@ impl Section {
         ensures is { result ≡ records (viewed self.now) }
         ensures few { result ≤ 128 }
     {
-        self.numbers.len() as u64
+        self.rows.len() as u64
     }
 
     /// How many different numbers it has.
@@ -91,29 +68,33 @@ impl Section {
         ensures is { result ≡ numbers (viewed self.now) }
         ensures few { result ≤ 128 }
     {
-        self.numbers.distinct() as u64
+        self.distinct as u64
     }
 
-    /// Whether a record more goes in.
-    fn has_room(&self, offset: u64) -> bool
-        ensures { result ≡ ((viewed self.now).used && takes (viewed self.now) offset) }
+    /// One more record at the end, where it goes in.
+    pub fn add(&mut self, offset: u64, key: KeyCode) -> Result<(), NoRoom>
+        ensures result { is_ok result ≡ takes (viewed self.old) offset }
+        ensures view { viewed self.new ≡ (if is_ok result then grown (viewed self.old) offset key.code (bucket_of key.hash) else viewed self.old) }
     {
-        self.used && offset < 64 && self.numbers.len() < 128
-    }
-
-    /// One more record at the end, where it goes in; tells whether it did.
-    pub fn add(&mut self, offset: u64, code: u64, hash: u64) -> bool
-        ensures result { result ≡ ((viewed self.old).used && takes (viewed self.old) offset) }
-        ensures view { viewed self.new ≡ (if result then grown (viewed self.old) offset code (bucket_of hash) else viewed self.old) }
-    {
-        if !self.has_room(offset) {
-            return false;
+        if offset >= 64 || self.rows.is_full() {
+            return Err(NoRoom);
         }
-        let n = self.numbers.len();
-        self.codes[n] = code;
-        self.numbers.push(offset as u8);
-        self.buckets.push(bucket_of(hash));
-        true
+        let at = self.rows.len() as u8;
+        let number = offset as usize;
+        let bucket = key.bucket();
+        self.rows.push(Row {
+            code: key.code,
+            offset: offset as u8,
+            bucket,
+            next: None,
+            below: self.heads[bucket as usize],
+        });
+        self.heads[bucket as usize] = Some(at);
+        let ends = self.numbers[number];
+        follow(&mut self.rows, ends, at);
+        self.numbers[number] = Some(Ends::extended(ends, at));
+        self.distinct += usize::from(ends.is_none());
+        Ok(())
     }
 
     /// The first position of an offset.
@@ -121,10 +102,8 @@ impl Section {
         ensures is { result ≡ first_in (viewed self.now) offset }
         ensures within { IfSome result (λ p. p < 128) }
     {
-        if offset >= 64 {
-            return None;
-        }
-        self.numbers.first_of(offset as usize)
+        let ends = (*self.numbers.get(offset as usize)?)?;
+        Some(u64::from(ends.first))
     }
 
     /// The next position with the offset of one.
@@ -132,55 +111,45 @@ impl Section {
         ensures is { result ≡ next_in (viewed self.now) position }
         ensures within { IfSome result (λ p. (position < p) × (p < 128)) }
     {
-        if position >= self.numbers.len() as u64 {
-            return None;
-        }
-        self.numbers.next_of(position as usize)
+        self.rows.get(position as usize)?.next.map(u64::from)
     }
 
-    /// The newest record with this translated key in the chain that begins at a link.
-    fn matched(&self, from: usize, bucket: u8, code: u64) -> Option<u64>
-        requires { (from ≤ self.now.buckets.count) × (latest self.now.buckets.values bucket from ≡ from) }
-        ensures is { result ≡ linked (matching self.now.buckets.values self.now.codes bucket code from) }
-        ensures few { IfSome result (λ p. p < 128) }
-        ensures before { IfSome result (λ p. p < from) }
+    /// The newest record with this translated key in the chain of a bucket, from a position on.
+    fn matched(&self, from: Option<u8>, bucket: u8, code: u64) -> Option<u64>
+        requires { Leads self.now.rows.items bucket from }
+        ensures is { result ≡ linked (matching (buckets_of self.now.rows.items) (codes_of self.now.rows.items) bucket code (link from)) }
+        ensures before { IfSome result (λ p. p < link from) }
     {
-        let mut link = from;
-        while link > 0 {
-            if self.codes[link - 1] == code {
-                return Some((link - 1) as u64);
+        let mut at = from;
+        while let Some(position) = at {
+            let row = self.rows[position as usize];
+            if row.code == code {
+                return Some(u64::from(position));
             }
-            link = self.buckets.down(link);
+            at = row.below;
         }
         None
     }
 
     /// The newest record with this translated key and hash.
-    pub fn newest(&self, code: u64, hash: u64) -> Option<u64>
-        ensures is { result ≡ newest_in (viewed self.now) code (bucket_of hash) }
+    pub fn newest(&self, key: KeyCode) -> Option<u64>
+        ensures is { result ≡ newest_in (viewed self.now) key.code (bucket_of key.hash) }
         ensures few { IfSome result (λ p. p < 128) }
     {
-        let bucket = bucket_of(hash);
-        self.matched(self.buckets.head(bucket), bucket, code)
-    }
-
-    /// Whether there is a record at a position, in the bucket of a hash.
-    fn has_at(&self, position: u64, bucket: u8) -> bool
-        ensures { result ≡ (nat_lt position (length (viewed self.now).codes) && slice_index (viewed self.now).buckets position == bucket) }
-    {
-        position < self.numbers.len() as u64 && self.buckets.at(position as usize) == bucket
+        let bucket = key.bucket();
+        self.matched(self.heads[bucket as usize], bucket, key.code)
     }
 
     /// The next older record with this translated key and hash, after one with the hash.
-    pub fn older(&self, position: u64, code: u64, hash: u64) -> Option<u64>
-        ensures is { result ≡ older_in (viewed self.now) code (bucket_of hash) position }
+    pub fn older(&self, position: u64, key: KeyCode) -> Option<u64>
+        ensures is { result ≡ older_in (viewed self.now) key.code (bucket_of key.hash) position }
         ensures few { IfSome result (λ p. p < 128) }
         ensures before { IfSome result (λ p. p < position) }
     {
-        let bucket = bucket_of(hash);
-        if !self.has_at(position, bucket) {
+        let row = self.rows.get(position as usize)?;
+        if row.bucket != key.bucket() {
             return None;
         }
-        self.matched(self.buckets.down(position as usize + 1), bucket, code)
+        self.matched(row.below, row.bucket, key.code)
     }
 }

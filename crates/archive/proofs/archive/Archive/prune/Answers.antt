@@ -1,7 +1,8 @@
-use Rattle.std.proofs.Common.{sym, refl, ◌∙◌, subst}
+use Rattle.std.proofs.Common.{◌≡◌, rules, sym, refl, ◌∙◌, subst}
 use Rattle.index.specs.Slots.{views}
 use Rattle.journal.specs.Meaning.{Lawful}
 use Rattle.journal.proofs.Laws.{lawful_pruned}
+use Rattle.rules.specs.Calls.{floor_reaches}
 use Rattle.archive_layout.specs.Fit.{FitBy}
 use Rattle.archive_layout.proofs.Fits.{fit_pruned}
 use Rattle.archive_layout.proofs.Prunes.{prune_struck}
@@ -20,8 +21,9 @@ returns g c =
     let start = c.section_of-start.result in
     let m = g.J.Journal.meaning c.prune.new.self in
     let is = λ (o : g.J.Journal.past) (f : Fits g.J.Journal.fits g.J.Journal.meaning g.T.Translator.translated g.T.Translator.hashed g.K.Key.W o a).
+    let is : c.is_some_and.result ≡ floor_reaches a.floor start = search rules in
     prune_struck s c.args.min l start c.in-Some.is c.section_of-start.ensures k g.K.Key.W c.strike-struck.result.numbers c.strike-struck.result.records m (views a.index)
-    (sym c.is_reached.ensures ∙ c.if-is_reached.false) (fit_of a l f c.in-Some.is) f.lawful a.index.apart c.strike-struck.ensures.numbers c.strike-struck.ensures.records (b.after o f.journal) in
+    (sym is ∙ c.if-is_some_and.false) (fit_of a l f c.in-Some.is) f.lawful a.index.apart c.strike-struck.ensures.numbers c.strike-struck.ensures.records (b.after o f.journal) in
     record {
       fit = λ o f. record {
         journal = b.fit o f.journal;

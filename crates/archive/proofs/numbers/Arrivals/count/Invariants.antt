@@ -1,13 +1,17 @@
-use Rattle.std.proofs.Common.{◌≡◌, ℕ, List, length}
-use Rattle.journal.specs.Meaning.{Meaning, rows_of}
+use Rattle.std.proofs.Common.{◌≡◌, ℕ, ◌-◌, ◌<◌, ◌≤◌, List, length, IfSome}
+use Rattle.journal.specs.Meaning.{Meaning, Lawful, rows_of}
 use Rattle.rules.specs.State.{Record}
 use Rattle.index.specs.Slots.{views}
-use Rattle.archive_layout.specs.Fit.{Coding}
-use Rattle.archive_layout.specs.Walks.{WalksNumber}
-use Rattle.archive_layout.specs.Promises.{Numbered}
-use Rattle.archive.proofs.numbers.count_number.Given as goal
+use Rattle.archive_layout.specs.Fit.{Coding, Fit}
+use Rattle.archive_layout.specs.Walks.{WalksNumber, from_link}
+use Rattle.archive.proofs.numbers.Arrivals.count.Given as goal
 
-abbrev pub invariant-loop-count : goal.invariant-loop-count
-invariant-loop-count l =
-    (k : Coding) (width size n : ℕ) (m : Meaning) → Numbered k width size m (views l.index) n l.start l.offset
-    → (done : List Record) × WalksNumber n l.start (rows_of m.sections l.start) done l.at × (length done ≡ l.count)
+abbrev pub invariant-loop-at : goal.invariant-loop-at
+invariant-loop-at l =
+    let a = l.self in
+    IfSome l.at (λ p. (l.count ≤ p) × (p < 128))
+    × ((k : Coding) (width : ℕ) (m : Meaning) → Lawful m → Fit k width a.size m (views a.index.now)
+    → (done : List Record) × WalksNumber a.number a.start (rows_of m.sections a.start) done l.at × (length done ≡ l.count))
+
+abbrev pub decreases-loop-at : goal.decreases-loop-at
+decreases-loop-at l = 128 - from_link l.at 128

@@ -1,14 +1,15 @@
 use Rattle.std.proofs.Common.{◌≡◌, ℕ, List, length, take}
-use Rattle.journal.specs.Meaning.{Meaning, rows_of}
+use Rattle.journal.specs.Meaning.{Meaning, Lawful, rows_of}
 use Rattle.rules.specs.State.{Record, those, records_of, bears_number, places_of}
 use Rattle.index.specs.Slots.{views}
-use Rattle.archive_layout.specs.Fit.{Coding}
+use Rattle.archive_layout.specs.Fit.{Coding, Fit}
 use Rattle.archive_layout.specs.Walks.{WalksNumber}
-use Rattle.archive_layout.specs.Promises.{Numbered}
-use Rattle.archive.proofs.numbers.fill_number.Given as goal
+use Rattle.archive.proofs.numbers.Arrivals.fill.Given as goal
 
-abbrev pub invariant-loop-i : goal.invariant-loop-i
-invariant-loop-i l =
-    (k : Coding) (width size : ℕ) (m : Meaning) → Numbered k width size m (views l.index) l.number l.start l.offset
-    → (done : List Record) × WalksNumber l.number l.start (rows_of m.sections l.start) done l.at × (length done ≡ l.i)
-    × (take l.i l.places ≡ take l.i (places_of (those (bears_number l.number) (records_of m.sections))))
+abbrev pub invariant-loop-place : goal.invariant-loop-place
+invariant-loop-place l =
+    let a = l.self in
+    let i = l.place-index in
+    (k : Coding) (width : ℕ) (m : Meaning) → Lawful m → Fit k width a.size m (views a.index.now)
+    → (done : List Record) × WalksNumber a.number a.start (rows_of m.sections a.start) done l.at × (length done ≡ i)
+    × (take i l.place-items ≡ take i (places_of (those (bears_number a.number) (records_of m.sections))))

@@ -1,15 +1,11 @@
-use Rattle.std.proofs.Common.{◌≡◌, ℕ}
-use Rattle.index.specs.Slots.{views}
+use Rattle.std.proofs.Common.{ℕ}
 use Rattle.archive_layout.specs.Fit.{Coding}
-use Rattle.archive_layout.specs.Promises.{Known}
+use Rattle.archive_layout.specs.Promises.{Reads}
 use Rattle.archive_layout.proofs.Searches.{ListedTo}
-use Rattle.archive.proofs.listing.count_bearers.Given as goal
+use Rattle.archive.specs.Searches.{Knows}
+use Rattle.archive.proofs.search.Search.count.Given as goal
 
 abbrev pub invariant-loop-count : goal.invariant-loop-count
 invariant-loop-count g l =
     let j = g.J.Journal in
-    let m = j.meaning l.initial.journal in
-    (o : j.past) → j.fits o l.initial.journal →
-    j.fits o l.journal
-    × (j.meaning l.journal ≡ m)
-    × ((k : Coding) (width : ℕ) → Known k width l.size m (views l.index) l.key l.code l.hash → ListedTo m l.key l.after l.count)
+    Reads j.fits j.meaning l.initial.journal l.journal (λ m. (k : Coding) (width : ℕ) → Knows k width m l.self → ListedTo m l.self.wanted.key.now l.after l.count)

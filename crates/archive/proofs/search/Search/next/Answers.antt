@@ -1,11 +1,6 @@
+use Rattle.archive_layout.proofs.Reading.{read_so}
 use Rattle.archive_layout.proofs.Searches.{next_is}
-use Rattle.archive.proofs.search.next_bearer.Goals as goal
+use Rattle.archive.proofs.search.Search.next.Goals as goal
 
 pub returns : goal.returns
-returns g c =
-    let a = c.least_bearer.ensures in
-    record {
-      fit = a.fit;
-      after = a.after;
-      told = λ o f k width known. next_is k width _ _ _ _ _ _ c.begin.result c.args.after _ known c.begin.ensures (a.told o f k width c.args.size known);
-    }
+returns g c = read_so c.least_bearer.ensures (λ m p k width known. next_is known c.start_behind.result c.args.after _ c.start_behind.ensures (p k width known))

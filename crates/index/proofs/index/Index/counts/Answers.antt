@@ -1,27 +1,18 @@
-use Rattle.std.proofs.Common.{◌<◌, ◌≤◌, length, arith}
-use Rattle.index_layout.specs.Held.{numbers, records}
-use Rattle.index_layout.proofs.Held.{total_step, total_end}
-use Rattle.index_layout.proofs.Through.{length_views}
-use Rattle.index.specs.Viewed.{viewed}
+use Rattle.std.proofs.Common.{◌<◌, length, sym, ap, arith}
+use Rattle.index_layout.specs.Held.{weight, numbers, records}
+use Rattle.index_layout.proofs.Held.{summed_more}
+use Rattle.index_layout.proofs.Through.{at_view, length_views}
+use Rattle.index.specs.Viewed.{slot_view}
 use Rattle.index.specs.Slots.{views}
 use Rattle.index.proofs.index.Index.counts.Goals as goal
 
-pub loop-i-preserved : goal.loop-i-preserved
-loop-i-preserved c =
+pub loop-slot-preserved : goal.loop-slot-preserved
+loop-slot-preserved c =
     let x = c.args.self.now in
-    let l : c.loop-i.i < length (views x) = omega (arith, length_views viewed x.sections 16 x.sized) in (
-      total_step numbers (views x) c.loop-i.i c.loop-i.numbers c.weigh-slot.result.numbers l c.weigh-slot.ensures.numbers c.loop-i.invariant.0,
-      total_step records (views x) c.loop-i.i c.loop-i.records c.weigh-slot.result.records l c.weigh-slot.ensures.records c.loop-i.invariant.1,
-      omega (arith, c.weigh-slot.ensures.few, c.loop-i.invariant.2),
-      omega (arith, c.weigh-slot.ensures.few, c.loop-i.invariant.3),
-    )
-
-pub returns : goal.returns
-returns c =
-    let x = c.args.self.now in
-    let l : length (views x) ≤ c.loop-i.i = omega (arith, length_views viewed x.sections 16 x.sized) in
+    let i = c.loop-slot.slot-index in
+    let l : i < length (views x) = omega (arith, length_views slot_view x.slots 16 x.sized) in
+    let e = sym (at_view slot_view x.slots i c.slot-item.result (omega arith)) in
     record {
-      numbers = total_end numbers (views x) c.loop-i.i c.loop-i.numbers l c.loop-i.invariant.0;
-      records = total_end records (views x) c.loop-i.i c.loop-i.records l c.loop-i.invariant.1;
-      few = (omega (arith, c.loop-i.invariant.2), omega (arith, c.loop-i.invariant.3));
+      numbers = summed_more numbers (views x) i c.loop-slot.kept.numbers _ _ l c.loop-slot.invariant.numbers (ap (weight numbers) e) c.add.ensures.numbers c.add.ensures.few.0;
+      records = summed_more records (views x) i c.loop-slot.kept.records _ _ l c.loop-slot.invariant.records (ap (weight records) e) c.add.ensures.records c.add.ensures.few.1;
     }

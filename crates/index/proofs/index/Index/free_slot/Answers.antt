@@ -1,15 +1,12 @@
-use Rattle.std.proofs.Common.{sym, ap, ◌∙◌, arith, below_more}
-use Rattle.index_layout.proofs.Through.{at_view}
-use Rattle.index.specs.Viewed.{viewed}
+use Rattle.std.proofs.Common.{◌≡◌, rules, tests, true, false}
+use Rattle.std.proofs.lemmas.Iterator.{YieldsList-from_slice, IsFirst-from_position}
+use Rattle.index.specs.Viewed.{slot_view}
+use Rattle.index.proofs.Slots.{free_place}
 use Rattle.index.proofs.index.Index.free_slot.Goals as goal
 
-pub returns-then-not-is_used : goal.returns-then-not-is_used
-returns-then-not-is_used c =
+pub returns : goal.returns
+returns c =
     let x = c.args.self.now in
-    (omega arith, ap (λ v. v.used) (at_view viewed x.sections c.loop-i.i c.index-self-i.result (omega arith)) ∙ sym c.is_used.ensures ∙ c.if-not-is_used.true)
-
-pub loop-i-preserved : goal.loop-i-preserved
-loop-i-preserved c =
-    let x = c.args.self.now in
-    below_more _ _ c.loop-i.invariant
-    (ap (λ v. v.used) (at_view viewed x.sections c.loop-i.i c.index-self-i.result (omega arith)) ∙ sym c.is_used.ensures ∙ c.if-not-is_used.false)
+    free_place x.slots c.position.result x.sized
+    (IsFirst-from_position _ _ _ (λ o. (slot_view o).used ≡ false) (λ o. (slot_view o).used ≡ true) c.position.ensures.ran (YieldsList-from_slice x.slots cc)
+    (λ o q k. search (rules, tests)) (λ o q k. search (rules, tests)))

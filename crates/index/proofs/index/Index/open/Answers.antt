@@ -1,7 +1,7 @@
-use Rattle.std.proofs.Common.{sym, refl, ◌∙◌, inl, inr, arith, length-set}
+use Rattle.std.proofs.Common.{Some, sym, refl, ◌∙◌, inl, inr, arith, length-set}
 use Rattle.index_layout.proofs.Through.{length_views, put_view, apart_open}
 use Rattle.index_layout.proofs.Slots.{slot_held, slot_absent}
-use Rattle.index.specs.Viewed.{viewed}
+use Rattle.index.specs.Viewed.{slot_view}
 use Rattle.index.specs.Slots.{views}
 use Rattle.index.proofs.index.Index.open.Goals as goal
 
@@ -12,29 +12,29 @@ returns-then-is_some c =
 pub returns-in_err-slot : goal.returns-in_err-slot
 returns-in_err-slot c =
     let x = c.args.self.now in
-    let n = length_views viewed x.sections 16 x.sized in
+    let n = length_views slot_view x.slots 16 x.sized in
     let a = slot_absent (views x) c.args.start c.slot_of.result c.slot_of.ensures.is (sym c.is_some.ensures ∙ c.if-is_some.false) in
     record { is = simp c.from_residual.ensures (inr (record { absent = λ i l. a.0 i (omega arith); full = c.in_err-slot.ensures }), refl) }
 
 pub invariant_of-self : goal.invariant_of-self
 invariant_of-self c =
     let x = c.args.self.now in
-    let n = length_views viewed x.sections 16 x.sized in
+    let n = length_views slot_view x.slots 16 x.sized in
     let a = slot_absent (views x) c.args.start c.slot_of.result c.slot_of.ensures.is (sym c.is_some.ensures ∙ c.if-is_some.false) in record {
       sized = simp length-set (omega arith);
-      apart = apart_open viewed x.sections c.in_ok-slot.slot c.args.start c.open.result (omega (arith, c.in_ok-slot.ensures.0)) c.open.ensures (λ k l. a.0 k (omega arith)) x.apart;
+      apart = apart_open slot_view x.slots c.in_ok-slot.slot c.args.start (Some c.open.result) (omega (arith, c.in_ok-slot.ensures.0)) c.open.ensures (λ k l. a.0 k (omega arith)) x.apart;
     }
 
 pub returns : goal.returns
 returns c =
     let x = c.args.self.now in
-    let n = length_views viewed x.sections 16 x.sized in
+    let n = length_views slot_view x.slots 16 x.sized in
     let a = slot_absent (views x) c.args.start c.slot_of.result c.slot_of.ensures.is (sym c.is_some.ensures ∙ c.if-is_some.false) in
     record {
       is = record {
         slot = c.in_ok-slot.ensures.0;
         free = c.in_ok-slot.ensures.1;
         absent = λ i l. a.0 i (omega arith);
-        after = put_view viewed x.sections c.in_ok-slot.slot c.open.result _ c.open.ensures;
+        after = put_view slot_view x.slots c.in_ok-slot.slot (Some c.open.result) _ c.open.ensures;
       };
     }

@@ -1,32 +1,14 @@
-use Rattle.std.proofs.Common.{sym, ap, ◌∙◌, arith}
+use Rattle.std.proofs.Common.{rules, tests, ◌∙◌}
+use Rattle.std.proofs.lemmas.Iterator.{YieldsList-from_slice}
+use Rattle.std.proofs.lemmas.Iterator.Adapters.{position_from-zero}
+use Rattle.std.proofs.lemmas.Iterator.Search.{position_from_yields_List}
 use Rattle.index_layout.specs.Held.{holds}
-use Rattle.index_layout.proofs.Through.{at_view, length_views}
-use Rattle.index_layout.proofs.Slots.{slot_here, slot_next, slot_end}
-use Rattle.index.specs.Viewed.{viewed}
-use Rattle.index.specs.Slots.{views}
+use Rattle.index_layout.proofs.Slots.{slot_place}
+use Rattle.index.specs.Viewed.{slot_view}
 use Rattle.index.proofs.index.Index.slot_of.Goals as goal
 
-pub returns-then-holds : goal.returns-then-holds
-returns-then-holds c =
+pub returns-clause-is : goal.returns-clause-is
+returns-clause-is c =
     let x = c.args.self.now in
-    record {
-      is = slot_here (views x) c.loop-i.i c.args.start (omega (arith, length_views viewed x.sections 16 x.sized))
-          (ap (holds c.args.start) (at_view viewed x.sections c.loop-i.i c.index-self-i.result (omega arith)) ∙ sym c.holds.ensures ∙ c.if-holds.true)
-          c.loop-i.invariant;
-      below = omega arith;
-    }
-
-pub loop-i-preserved : goal.loop-i-preserved
-loop-i-preserved c =
-    let x = c.args.self.now in
-    slot_next (views x) c.loop-i.i c.args.start (omega (arith, length_views viewed x.sections 16 x.sized))
-    (ap (holds c.args.start) (at_view viewed x.sections c.loop-i.i c.index-self-i.result (omega arith)) ∙ sym c.holds.ensures ∙ c.if-holds.false)
-    c.loop-i.invariant
-
-pub returns : goal.returns
-returns c =
-    let x = c.args.self.now in
-    record {
-      is = sym (slot_end (views x) c.loop-i.i c.args.start (omega (arith, length_views viewed x.sections 16 x.sized))) ∙ c.loop-i.invariant;
-      below = tt;
-    }
+    position_from_yields_List (λ o. holds c.args.start (slot_view o)) _ _ _ c.position.ensures.ran (YieldsList-from_slice x.slots cc) (λ o b q k. search (rules, tests))
+    ∙ position_from-zero (λ o. holds c.args.start (slot_view o)) x.slots ∙ slot_place slot_view x.slots 0 c.args.start

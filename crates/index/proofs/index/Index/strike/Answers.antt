@@ -1,41 +1,47 @@
-use Rattle.std.proofs.Common.{◌<◌, ◌≤◌, length, ap, ◌∙◌, arith}
+use Rattle.std.proofs.Common.{◌<◌, length, map, set, sym, ap, ◌∙◌, subst, arith, length-set}
+use Rattle.index_layout.specs.Views.{Apart, kept_view}
 use Rattle.index_layout.specs.Held.{weight, under, numbers, records}
-use Rattle.index_layout.proofs.Held.{total_step, total_end}
-use Rattle.index_layout.proofs.Through.{length_views}
+use Rattle.index_layout.proofs.Apart.{apart_kept}
+use Rattle.index_layout.proofs.Held.{summed_more}
 use Rattle.index_layout.proofs.Slots.{struck_step, struck_end}
-use Rattle.index.specs.Viewed.{viewed}
+use Rattle.index_layout.proofs.Through.{at_view, put_view, length_views, gone_weight}
+use Rattle.index.specs.Viewed.{slot_view}
 use Rattle.index.specs.Slots.{views}
 use Rattle.index.proofs.index.Index.strike.Goals as goal
 
-pub loop-i-preserved : goal.loop-i-preserved
-loop-i-preserved c =
+pub loop-slot-preserved : goal.loop-slot-preserved
+loop-slot-preserved c =
     let was = c.args.self.now in
-    let i = c.loop-i.i in
-    let n0 = length_views viewed c.loop-i.self.sections 16 c.loop-i.self.sized in
-    let n1 = length_views viewed was.sections 16 was.sized in
-    let l : i < length (views was) = omega arith in
-    let same = c.loop-i.invariant.1 i (omega arith) in
-    let s = struck_step (views c.loop-i.self) (views c.strike_slot-struck.new.self) (views was) i c.args.min
-    (omega arith) c.strike_slot-struck.ensures.views c.loop-i.invariant.0 c.loop-i.invariant.1 in (
-      s.0,
-      s.1,
-      total_step (under c.args.min numbers) (views was) i c.loop-i.numbers c.strike_slot-struck.result.numbers l
-          (c.strike_slot-struck.ensures.numbers ∙ ap (weight (under c.args.min numbers)) same) c.loop-i.invariant.2,
-      total_step (under c.args.min records) (views was) i c.loop-i.records c.strike_slot-struck.result.records l
-          (c.strike_slot-struck.ensures.records ∙ ap (weight (under c.args.min records)) same) c.loop-i.invariant.3,
-      omega (arith, c.strike_slot-struck.ensures.few, c.loop-i.invariant.4),
-      omega (arith, c.strike_slot-struck.ensures.few, c.loop-i.invariant.5),
-    )
-
-pub returns : goal.returns
-returns c =
-    let was = c.args.self.now in
-    let n0 = length_views viewed c.loop-i.self.sections 16 c.loop-i.self.sized in
-    let n1 = length_views viewed was.sections 16 was.sized in
-    let l : length (views was) ≤ c.loop-i.i = omega arith in
+    let xs = c.loop-slot.slot-items in
+    let i = c.loop-slot.slot-index in
+    let min = c.args.min in
+    let n = length_views slot_view xs 16 c.loop-slot.invariant.long in
+    let l : i < length (views was) = omega (arith, length_views slot_view was.slots 16 was.sized) in
+    let at = at_view slot_view xs i c.slot-item.result (omega arith) in
+    let s = struck_step (map slot_view xs) (map slot_view (set xs i c.take_below.new.slot)) (views was) i min (omega arith)
+    (put_view slot_view xs i c.take_below.new.slot _ (c.take_below.ensures.left ∙ ap (kept_view min) (sym at))) c.loop-slot.invariant.done c.loop-slot.invariant.left in
+    let same = sym at ∙ c.loop-slot.invariant.left i (omega arith) in
     record {
-      views = struck_end (views c.loop-i.self) (views was) 16 c.args.min n0 n1 (λ k h. c.loop-i.invariant.0 k (omega arith));
-      numbers = total_end (under c.args.min numbers) (views was) c.loop-i.i c.loop-i.numbers l c.loop-i.invariant.2;
-      records = total_end (under c.args.min records) (views was) c.loop-i.i c.loop-i.records l c.loop-i.invariant.3;
-      few = (omega (arith, c.loop-i.invariant.4), omega (arith, c.loop-i.invariant.5));
+      long = simp length-set (omega arith);
+      done = s.0;
+      left = s.1;
+      numbers = summed_more (under min numbers) (views was) i c.loop-slot.struck.numbers _ _ l c.loop-slot.invariant.numbers
+          (ap (weight numbers) c.take_below.ensures.taken ∙ gone_weight min numbers _ ∙ ap (weight (under min numbers)) same) c.add.ensures.numbers c.add.ensures.few.0;
+      records = summed_more (under min records) (views was) i c.loop-slot.struck.records _ _ l c.loop-slot.invariant.records
+          (ap (weight records) c.take_below.ensures.taken ∙ gone_weight min records _ ∙ ap (weight (under min records)) same) c.add.ensures.records c.add.ensures.few.1;
     }
+
+pub invariant_of-self : goal.invariant_of-self
+invariant_of-self c =
+    let was = c.args.self.now in
+    let inv = c.loop-slot.invariant in
+    let e = struck_end (map slot_view c.loop-slot.slot-items) (views was) 16 c.args.min (length_views slot_view c.loop-slot.slot-items 16 inv.long) (length_views slot_view was.slots 16 was.sized)
+    (λ k h. inv.done k (omega arith)) in
+    record { sized = inv.long; apart = subst Apart (sym e) (apart_kept (views was) c.args.min was.apart) }
+
+pub returns-clause-views : goal.returns-clause-views
+returns-clause-views c =
+    let was = c.args.self.now in
+    let inv = c.loop-slot.invariant in
+    struck_end (map slot_view c.loop-slot.slot-items) (views was) 16 c.args.min (length_views slot_view c.loop-slot.slot-items 16 inv.long) (length_views slot_view was.slots 16 was.sized)
+    (λ k h. inv.done k (omega arith))

@@ -1,11 +1,9 @@
-use Rattle.std.proofs.Common.{sym, ◌∙◌, arith}
-use Rattle.index_layout.proofs.Offsets.{fresh_held, fresh_le}
+use Rattle.std.proofs.Common.{length, arith}
+use Rattle.index_layout.proofs.Offsets.{fresh_le}
+use Rattle.index.specs.Rows.{offsets_of}
 use Rattle.index.proofs.section.Section.distinct.Goals as goal
 
-pub returns : goal.returns
-returns c =
-    let n = c.args.self.now.numbers in
-    record {
-      is = c.distinct.ensures ∙ sym (fresh_held n.offsets n.count (omega arith));
-      few = omega (arith, c.distinct.ensures, fresh_le n.offsets n.count);
-    }
+pub returns-clause-few : goal.returns-clause-few
+returns-clause-few c =
+    let s = c.args.self.now in
+    omega (arith, fresh_le (offsets_of s.rows.items) (length s.rows.items), s.linked.counted)

@@ -1,15 +1,11 @@
-use Rattle.std.proofs.Common.{ltb, None, sym, ap, ◌∙◌, arith}
-use Rattle.std.proofs.lemmas.Bool.{lt-ltb, cond-true}
-use Rattle.index_layout.specs.Links.{linked}
-use Rattle.index_layout.proofs.Offsets.{earliest_held, first_within}
+use Rattle.std.proofs.Common.{length, Some, None, ap, sym, ◌∙◌, arith}
+use Rattle.index_layout.proofs.Offsets.{first_within}
+use Rattle.index.specs.Rows.{offsets_of, first_in}
 use Rattle.index.proofs.section.Section.first_of.Goals as goal
 
-pub returns : goal.returns
-returns c =
-    let n = c.args.self.now.numbers in
-    record {
-      within = first_within n.offsets c.args.offset n.count 128 c.first_of.result (omega arith) c.first_of.ensures;
-      is = c.first_of.ensures
-          ∙ ap linked (sym (earliest_held n.offsets c.args.offset n.count (omega arith)))
-          ∙ sym (cond-true (ltb c.args.offset 64) _ None (lt-ltb c.args.offset 64 (omega arith)));
-    }
+pub returns-clause-within : goal.returns-clause-within
+returns-clause-within c =
+    let s = c.args.self.now in
+    let low = first_within (offsets_of s.rows.items) c.args.offset (length s.rows.items) 128 (Some c.in_ok-ends.ends.first) (omega arith)
+    (ap first_in (sym c.in_ok-ends.was ∙ c.in_ok-get.ensures.lookup.3.1 None) ∙ s.linked.begun c.args.offset (omega (arith, c.in_ok-get.ensures.lookup.3.0))) in
+    omega (arith, low)

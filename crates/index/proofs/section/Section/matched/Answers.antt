@@ -1,25 +1,17 @@
-use Rattle.std.proofs.Common.{sym, ◌∙◌, arith}
-use Rattle.index_layout.proofs.Links.{matching_here, matching_down, linked_at}
+use Rattle.std.proofs.Common.{Some, ap, ◌∙◌}
+use Rattle.index_layout.specs.Links.{link}
+use Rattle.index.proofs.Chains.{walked_here, walked_on}
 use Rattle.index.proofs.section.Section.matched.Goals as goal
 
-pub returns-then-self-link : goal.returns-then-self-link
-returns-then-self-link c =
-    record {
-      is = linked_at c.loop-link.link _ (omega arith)
-          (sym c.loop-link.invariant.3 ∙ matching_here _ _ _ _ c.loop-link.link c.loop-link.invariant.2 (omega arith) c.if-self-link.true);
-      few = omega arith;
-      before = omega arith;
-    }
+pub returns-then-row-code-clause-is : goal.returns-then-row-code-clause-is
+returns-then-row-code-clause-is c =
+    ap (λ p. Some p) c.from.ensures
+    ∙ walked_here c.args.self.now c.args.bucket c.args.code (link c.args.from) c.deref.result.now c.in-Some.position c.loop-at.at c.deref.ensures.0 c.in-Some.is c.loop-at.invariant c.if-row-code.true
 
-pub loop-link-smaller : goal.loop-link-smaller
-loop-link-smaller c =
-    let s = c.args.self.now in
-    (matching_down s.buckets.values s.codes c.args.bucket c.args.code c.loop-link.link c.down-link.result
-    c.loop-link.invariant.2 (omega arith) c.if-self-link.false c.down-link.ensures).0
+pub loop-at-smaller : goal.loop-at-smaller
+loop-at-smaller c =
+    (walked_on c.args.self.now c.args.bucket c.args.code (link c.args.from) c.deref.result.now c.in-Some.position c.loop-at.at c.deref.ensures.0 c.in-Some.is c.loop-at.invariant c.if-row-code.false).0
 
-pub loop-link-preserved : goal.loop-link-preserved
-loop-link-preserved c =
-    let s = c.args.self.now in
-    let d = matching_down s.buckets.values s.codes c.args.bucket c.args.code c.loop-link.link c.down-link.result
-    c.loop-link.invariant.2 (omega arith) c.if-self-link.false c.down-link.ensures in
-    (omega (arith, d.0), omega (arith, d.0), d.1, d.2 ∙ c.loop-link.invariant.3)
+pub loop-at-preserved : goal.loop-at-preserved
+loop-at-preserved c =
+    (walked_on c.args.self.now c.args.bucket c.args.code (link c.args.from) c.deref.result.now c.in-Some.position c.loop-at.at c.deref.ensures.0 c.in-Some.is c.loop-at.invariant c.if-row-code.false).1

@@ -1,14 +1,9 @@
-use Rattle.std.proofs.Common.{◌≡◌, ◌≤◌}
-use Rattle.index_layout.specs.Links.{latest, matching}
+use Rattle.index_layout.specs.Links.{link}
+use Rattle.index.proofs.Chains.{Walked}
 use Rattle.index.proofs.section.Section.matched.Given as goal
 
-abbrev pub invariant-loop-link : goal.invariant-loop-link
-invariant-loop-link l =
-    (l.link ≤ l.self.buckets.count)
-    × (l.link ≤ l.from)
-    × (latest l.self.buckets.values l.bucket l.link ≡ l.link)
-    × (matching l.self.buckets.values l.self.codes l.bucket l.code l.link
-    ≡ matching l.self.buckets.values l.self.codes l.bucket l.code l.from)
+abbrev pub invariant-loop-at : goal.invariant-loop-at
+invariant-loop-at l = Walked l.self l.bucket l.code (link l.fn.from) l.at
 
-abbrev pub decreases-loop-link : goal.decreases-loop-link
-decreases-loop-link l = l.link
+abbrev pub decreases-loop-at : goal.decreases-loop-at
+decreases-loop-at l = link l.at

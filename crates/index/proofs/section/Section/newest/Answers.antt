@@ -1,17 +1,20 @@
-use Rattle.std.proofs.Common.{arith}
-use Rattle.index_layout.proofs.Links.{start_link, newest_held}
+use Rattle.std.proofs.Common.{length, ap, ◌∙◌, arith}
+use Rattle.std.proofs.lemmas.Option.{IfSome_then}
+use Rattle.index_layout.specs.Links.{linked}
+use Rattle.index.specs.Rows.{codes_of}
+use Rattle.index.proofs.Chains.{matching_in, newest_from}
 use Rattle.index.proofs.section.Section.newest.Goals as goal
 
 pub matched-requires : goal.matched-requires
-matched-requires c =
-    let b = c.args.self.now.buckets in
-    start_link b.values c.bucket_of-bucket.result b.count c.head.result c.head.ensures
+matched-requires c = (newest_from c.args.self.now c.bucket-bucket.result c.args.key.code c.bucket-bucket.ensures.below).0
 
-pub returns : goal.returns
-returns c =
+pub returns-clause-is : goal.returns-clause-is
+returns-clause-is c =
     let s = c.args.self.now in
-    record {
-      few = c.matched.ensures.few;
-      is = newest_held s.buckets.values s.codes s.buckets.count s.numbers.count _ _ c.args.code c.head.result c.matched.result
-          s.level (omega arith) c.bucket_of-bucket.ensures.is c.head.ensures c.matched.ensures.is;
-    }
+    c.matched.ensures.is ∙ ap linked (newest_from s c.bucket-bucket.result c.args.key.code c.bucket-bucket.ensures.below).1
+    ∙ ap (λ b. linked (matching_in s b c.args.key.code (length (codes_of s.rows.items)))) c.bucket-bucket.ensures.is
+
+pub returns-clause-few : goal.returns-clause-few
+returns-clause-few c =
+    let lead = newest_from c.args.self.now c.bucket-bucket.result c.args.key.code c.bucket-bucket.ensures.below in
+    IfSome_then c.matched.result c.matched.ensures.before (λ p h. omega (arith, lead.0.0))

@@ -1,24 +1,26 @@
-use Rattle.std.proofs.Common.{sym, ◌∙◌, arith}
-use Rattle.index_layout.proofs.Links.{start_link, below_link, older_held, below_more_than}
+use Rattle.std.proofs.Common.{refl, ◌∙◌, ap, arith}
+use Rattle.std.proofs.lemmas.Option.{IfSome_then}
+use Rattle.index_layout.specs.Views.{older_in}
+use Rattle.index.specs.Viewed.{viewed}
+use Rattle.index.proofs.Chains.{older_from}
 use Rattle.index.proofs.section.Section.older.Goals as goal
 
 pub matched-requires : goal.matched-requires
-matched-requires c =
-    let s = c.args.self.now in
-    let f = below_link s.buckets.values s.codes s.buckets.count s.numbers.count c.args.position c.bucket_of-bucket.result c.down.result
-    s.level (omega arith) (sym c.has_at.ensures ∙ c.if-not-has_at.false) c.down.ensures in
-    let l = start_link s.buckets.values c.bucket_of-bucket.result c.args.position c.down.result f.1 in
-    (omega (arith, f.0, l.0), l.1)
+matched-requires c = (older_from c.args.self.now c.in_ok-row.row.now.bucket c.args.key.code c.deref.result.now c.in_ok-row.row.now c.args.position c.deref.ensures.0 c.in_ok-row.ensures.lookup.3 refl).0
 
-pub returns : goal.returns
-returns c =
+pub returns-clause-is : goal.returns-clause-is
+returns-clause-is c =
     let s = c.args.self.now in
-    let f = below_link s.buckets.values s.codes s.buckets.count s.numbers.count c.args.position c.bucket_of-bucket.result c.down.result
-    s.level (omega arith) (sym c.has_at.ensures ∙ c.if-not-has_at.false) c.down.ensures in
-    let l = start_link s.buckets.values c.bucket_of-bucket.result c.args.position c.down.result f.1 in
-    record {
-      few = c.matched.ensures.few;
-      before = below_more_than c.matched.result c.down.result c.args.position l.0 c.matched.ensures.before;
-      is = older_held s.buckets.values s.codes s.buckets.count s.numbers.count c.args.position c.bucket_of-bucket.result _ c.args.code c.down.result c.matched.result
-          s.level (omega arith) c.bucket_of-bucket.ensures.is (sym c.has_at.ensures ∙ c.if-not-has_at.false) c.down.ensures c.matched.ensures.is;
-    }
+    c.matched.ensures.is
+    ∙ (older_from s c.in_ok-row.row.now.bucket c.args.key.code c.deref.result.now c.in_ok-row.row.now c.args.position c.deref.ensures.0 c.in_ok-row.ensures.lookup.3 refl).2
+    ∙ ap (λ b. older_in (viewed s) c.args.key.code b c.args.position) (c.if-row-bucket.false ∙ c.bucket.ensures.is)
+
+pub returns-clause-few : goal.returns-clause-few
+returns-clause-few c =
+    let lead = older_from c.args.self.now c.in_ok-row.row.now.bucket c.args.key.code c.deref.result.now c.in_ok-row.row.now c.args.position c.deref.ensures.0 c.in_ok-row.ensures.lookup.3 refl in
+    IfSome_then c.matched.result c.matched.ensures.before (λ p h. omega (arith, lead.0.0))
+
+pub returns-clause-before : goal.returns-clause-before
+returns-clause-before c =
+    let lead = older_from c.args.self.now c.in_ok-row.row.now.bucket c.args.key.code c.deref.result.now c.in_ok-row.row.now c.args.position c.deref.ensures.0 c.in_ok-row.ensures.lookup.3 refl in
+    IfSome_then c.matched.result c.matched.ensures.before (λ p h. omega (arith, lead.1))
