@@ -24,7 +24,7 @@ use std::marker::Model;
 pub struct Memory<'a> {
     records: &'a mut [RowRecord],
     bytes: &'a mut [u8],
-    /// The first `slots` are in use. A table with its length beside it, since a library crate has no heap.
+    /// The first `slots` are in use: a limit that is set once and no length that grows, so an array in fixed memory.
     heads: [Head; 64],
     slots: usize,
     rows: usize,

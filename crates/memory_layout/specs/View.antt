@@ -64,7 +64,7 @@ limits_of v = record { slots = v.slots; rows = v.rows; bytes = v.limit; width = 
 abbrev pub meaning_of : View → Meaning
 meaning_of v = record { limits = limits_of v; floor = v.floor; sections = kept_in (pages v) v.slots }
 
--- What holds between calls, in parts that each stand as a ghost field.
+-- What holds between calls, part by part.
 abbrev pub Counts : View → Type 0
 Counts v = (s : ℕ) → s < v.slots → (head v s).count ≤ v.rows
 
