@@ -1,5 +1,5 @@
 -- What an archive that fits knows once it is loaded. Assumes nothing.
-use Rattle.std.proofs.Common.{◌≡◌, ℕ, ◌<◌, ◌≤◌, true, ◌⊎◌, List, length, is_some, Some, None, Ok, Err, Option, sym, refl, ◌∙◌, subst, inl, inr, arith}
+use Rattle.std.proofs.Common.{◌≡◌, ℕ, ◌<◌, ◌≤◌, true, ◌⊎◌, List, length, is_some, Some, None, Ok, Option, sym, refl, ◌∙◌, subst, inl, inr, arith}
 use Rattle.std.proofs.lemmas.Bool.{cond-true, cond-false, cases_lt, lt-ltb, le-ltb, both_ways}
 use Rattle.std.proofs.lemmas.List.{length-map}
 use Rattle.journal.specs.Meaning as journal
@@ -11,8 +11,6 @@ use Rattle.archive_layout.specs.Fit.{Coding, Fit, FitBy}
 use Rattle.archive_layout.specs.Promises.{Numbered}
 use Rattle.archive.specs.declared.numbers.Arrivals.{Arrivals}
 use Rattle.archive.specs.Parts.{coding_of}
-use Rattle.rules.specs.declared.fault.ArchiveFault.{ArchiveFault}
-use Rattle.rules.specs.declared.fault.ArchiveFault.TheVariants.{NotLoaded}
 use Rattle.rules.specs.State.{State, section_of, or_zero}
 use Rattle.archive.specs.Archives.{state_of, Fits, Does, home_of}
 use Rattle.archive.specs.declared.archive.Archive.{Archive}
@@ -48,18 +46,6 @@ pub numbered : {k : Coding} {width : ℕ} {m : Meaning} (a : Arrivals) → Lawfu
 numbered a law fit = record { lawful = law; fit = fit; home = a.home; near = a.near }
 
 -- What the home of a number tells.
-pub home_none : (size floor : Option ℕ) (n : ℕ) (f : ArchiveFault) → home_of size floor n ≡ Err f → (size ≡ None) × (f ≡ NotLoaded)
-home_none None floor n f h = (refl, cc)
-home_none (Some l) floor n f h = let z : ◌≡◌ {A = ℕ} 0 1 = cc in absurd (omega arith)
-
-pub home_below : (size floor : Option ℕ) (n : ℕ) → home_of size floor n ≡ Ok None → (l : ℕ) × (size ≡ Some l) × (n < or_zero floor)
-home_below None floor n h = let z : ◌≡◌ {A = ℕ} 0 1 = cc in absurd (omega arith)
-home_below (Some l) floor n h = (l, refl, by (cases_lt n (or_zero floor)))
-  where
-    by : (n < or_zero floor) ⊎ (or_zero floor ≤ n) → n < or_zero floor
-    by (inl lt) = lt
-    by (inr le) = let e : ◌≡◌ {A = Option ℕ} (Some (section_of l n)) None = let t = cond-false _ None (Some (section_of l n)) (le-ltb n (or_zero floor) le) in cc in let z : ◌≡◌ {A = ℕ} 0 1 = cc in absurd (omega arith)
-
 pub home_at : (size floor : Option ℕ) (n start : ℕ) → home_of size floor n ≡ Ok (Some start) → (l : ℕ) × (size ≡ Some l) × (or_zero floor ≤ n) × (start ≡ section_of l n)
 home_at None floor n start h = let z : ◌≡◌ {A = ℕ} 0 1 = cc in absurd (omega arith)
 home_at (Some l) floor n start h = let w = by (cases_lt n (or_zero floor)) in (l, refl, w.0, w.1)

@@ -22,6 +22,7 @@ impl Search<'_> {
         ensures { Reads J.Journal.fits J.Journal.meaning journal.old journal.new (λ m. (k : Coding) (width : ℕ) → Knows k width m self.now → result ≡ length (listed_from m.sections self.now.wanted.key.now None)) }
     {
         let mut after = None;
+        // Up to a bound, since over a journal that does not fit the places need not come to an end.
         for count in 0..MOST {
             let Some(spot) = self.next(journal, after) else {
                 return count;
@@ -31,6 +32,7 @@ impl Search<'_> {
         MOST
     }
 
+    // Counting and filling stay two loops: their step is `next`, and what is left differs, here a number and there a place.
     /// Fills a slice with the places of the first records that bear the key.
     pub(crate) fn fill<J: Journal>(&self, journal: &mut J, places: &mut [Place])
         ensures { Reads J.Journal.fits J.Journal.meaning journal.old journal.new (λ m. (k : Coding) (width : ℕ) → Knows k width m self.now → length places.old ≤ length (listed_from m.sections self.now.wanted.key.now None) → places.new ≡ take (length places.old) (listed_from m.sections self.now.wanted.key.now None)) }
@@ -67,6 +69,7 @@ impl Search<'_> {
         ensures { result ≡ total (candidates_in self.now.wanted.coded.code self.now.wanted.coded.hash) (views self.now.index.now) }
     {
         let mut count = 0;
+        // As `(0..16).map(..).sum()` it was tried, and the proof that the sum fits did not close.
         for slot in 0..16 {
             count += self.candidates_of(slot);
         }

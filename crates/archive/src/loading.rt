@@ -52,12 +52,10 @@ impl<T: Translator, K: Key> Loader<'_, T, K> {
         let mut buffer = [0u8; 32];
         let entry = journal.read_entry(start, position, &mut buffer)?;
         let bytes = &buffer[..K::width()];
-        if self.key.read(bytes).is_err() {
-            return Err(ArchiveFault::Key(KeyFault::StoredKey {
-                section: start,
-                position,
-            }));
-        }
+        self.key.read(bytes).map_err(|_| KeyFault::StoredKey {
+            section: start,
+            position,
+        })?;
         let number = entry.label.number;
         if section_of(self.size, number) != start {
             return Err(ArchiveFault::WrongSection {
@@ -66,10 +64,10 @@ impl<T: Translator, K: Key> Loader<'_, T, K> {
             });
         }
         let offset = number.saturating_sub(start);
-        let noted = self
-            .index
-            .note(start, offset, coded(self.translator, bytes));
-        noted.map_err(|_| no_room(start))
+        self.index
+            .note(start, offset, coded(self.translator, bytes))
+            .map_err(|_| no_room(start))?;
+        Ok(())
     }
 
     // The rows of a section, where the sections before it are in the index.
@@ -78,6 +76,7 @@ impl<T: Translator, K: Key> Loader<'_, T, K> {
         ensures same { (self.new.translator.now ≡ self.old.translator.now) × (self.new.size ≡ self.old.size) }
     {
         let rows = journal.row_count(start);
+        // Counted, since a journal is asked for a row by its position, and lends none of its rows.
         for position in 0..rows {
             self.take_row(journal, start, position)?;
         }
@@ -91,6 +90,7 @@ impl<T: Translator, K: Key> Loader<'_, T, K> {
     {
         let mut from = Some(0);
         let mut count = 0;
+        // Counted, since the starts of a journal that does not fit need not come to an end.
         for turn in 0..16usize {
             let Some(start) = start_from(journal, from) else {
                 return Ok(count);

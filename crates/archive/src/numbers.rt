@@ -69,7 +69,7 @@ impl<'a> Arrivals<'a> {
     }
 
     /// Whether a record bears the number and a key at once.
-    pub(crate) fn bear<J: Journal>(&self, journal: &mut J, key: &[u8]) -> bool
+    pub(crate) fn has_key<J: Journal>(&self, journal: &mut J, key: &[u8]) -> bool
         ensures { Reads J.Journal.fits J.Journal.meaning journal.old journal.new (λ m. (k : Coding) (width : ℕ) → Lawful m → Fit k width self.now.size m (views self.now.index.now) → length key.now ≡ m.limits.width → result ≡ some_in (those (bears_both self.now.number key.now) (records_of m.sections))) }
     {
         let mut at = self.index.first_of(self.start, self.offset);

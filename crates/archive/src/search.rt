@@ -121,6 +121,7 @@ impl Search<'_> {
         ensures { Reads J.Journal.fits J.Journal.meaning journal.old journal.new (λ m. (k : Coding) (width : ℕ) → Knows k width m self.now → result ≡ spot_in (least_from (sought self.now.wanted.key.now after) m.sections from)) }
     {
         let mut from = Some(from);
+        // Counted, since a walk over starts has to be seen to end; there are sixteen slots.
         for turn in 0..16usize {
             let (slot, start) = self.slot_from(from)?;
             if let Some(place) = self.least_in(journal, slot, start, after) {

@@ -121,9 +121,3 @@ module _ (v : View) (i c h : ℕ) where
       let b = count_here v c h (x % 2 ^ 40) here.coded in
       let d = ap (λ o. count_coded v c h (below_link (in_place o))) e in
       omega arith
-
-  pub count_some : (x n : ℕ) (at : Option ℕ) → at ≡ Some x → HandledAt v i c h x → n + count_coded v c h (below_link (in_place at)) ≤ 128 → n < 128
-  count_some x n at e here le =
-      let b = count_here v c h (x % 2 ^ 40) here.coded in
-      let d = ap (λ o. count_coded v c h (below_link (in_place o))) e in
-      omega arith

@@ -1,14 +1,11 @@
 -- One row of a load, by what was read of it. Assumes nothing.
-use Rattle.std.proofs.Common.{◌≡◌, ℕ, ◌-◌, Bool, true, false, not, eqb, List, [], ◌∷◌, take, is_err, Some, None, Ok, Err, Option, Result, sym, ap, ◌∙◌, subst, arith}
-use Rattle.std.proofs.lemmas.Bool.{cond-true, cond-false, eq-eqb, ne_eqb}
+use Rattle.std.proofs.Common.{◌≡◌, ℕ, ◌-◌, true, false, not, eqb, List, [], ◌∷◌, take, is_ok, Some, None, Ok, Option, Result, sym, refl, ap, ◌∙◌, subst}
+use Rattle.std.proofs.lemmas.Bool.{cond-false, eq-eqb, both_ways}
 use Rattle.keys.specs.declared.fault.KeyFault.{KeyFault}
-use Rattle.keys.specs.declared.fault.KeyFault.TheVariants.{StoredKey}
 use Rattle.keys.specs.Reading.{read_answer}
 use Rattle.journal.specs.declared.row.Entry.{Entry}
 use Rattle.journal.specs.Meaning.{Meaning, Row, row_at}
 use Rattle.journal.specs.Calls.{or_fault}
-use Rattle.rules.specs.declared.fault.ArchiveFault.{ArchiveFault}
-use Rattle.rules.specs.declared.fault.ArchiveFault.TheVariants.{WrongSection, Key}
 use Rattle.rules.specs.State.{Kind, section_of}
 use Rattle.rules.specs.Calls.{is_key, row_fault}
 use Rattle.index_layout.specs.Views.{View, bucket_of}
@@ -18,9 +15,9 @@ use Rattle.archive_layout.specs.Walks.{filed_at}
 use Rattle.archive_layout.specs.Loads.{IndexesRow}
 use Rattle.archive_layout.proofs.Bearers.{ReadRow}
 
-key_of : (o : Option ℕ) (r : Result Unit KeyFault) (b : Bool) → r ≡ read_answer o → is_err r ≡ b → is_key o ≡ not b
-key_of None r b e f = ap not (sym (ap is_err e) ∙ f)
-key_of (Some p) r b e f = ap not (sym (ap is_err e) ∙ f)
+key_of : (o : Option ℕ) (r : Result Unit KeyFault) → r ≡ read_answer o → is_ok r ≡ true → is_key o ≡ true
+key_of None r e f = refl
+key_of (Some p) r e f = absurd (both_ways _ refl (sym (ap is_ok e) ∙ f))
 
 module _ (kind : Kind) (k : Coding) (l : ℕ) {m : Meaning} {s p : ℕ} {e : Entry} {after : List ℕ} (r : ReadRow m s p e after) {n : ℕ} {row : Row} (wide : n ≡ m.limits.width) (there : row_at m s p ≡ Some row) where
   same : r.row ≡ row
@@ -33,29 +30,9 @@ module _ (kind : Kind) (k : Coding) (l : ℕ) {m : Meaning} {s p : ℕ} {e : Ent
   pub read_number : e.label.number ≡ row.label.number
   read_number = ap (λ (x : Entry). x.label.number) (sym r.entry) ∙ ap (λ (x : Row). x.label.number) same
 
-  is_read : (t : Result Unit KeyFault) (b : Bool) → t ≡ read_answer (kind.flaw (take n after)) → is_err t ≡ b → is_key (kind.flaw row.key) ≡ not b
-  is_read t b f g = key_of (kind.flaw row.key) t b (f ∙ ap (λ x. read_answer (kind.flaw x)) read_key) g
-
-  pub row_no_key : (vs vs' : List View) (t : Result Unit KeyFault) → t ≡ read_answer (kind.flaw (take n after)) → is_err t ≡ true → IndexesRow kind k l s p row vs vs' (Err (Key (StoredKey s p)))
-  row_no_key vs vs' t f g =
-      let a : row_fault kind l (filed_at s p row ∷ []) ≡ Some (Key (StoredKey s p)) = cond-true _ _ _ (ap not (is_read t true f g)) in
-      record {
-        answer = ap (λ o. or_fault o tt) (sym a);
-        noted = λ none. (let z : ◌≡◌ {A = Option ArchiveFault} (Some (Key (StoredKey s p))) None = sym a ∙ none in let w : ◌≡◌ {A = ℕ} 0 1 = cc in absurd (omega arith));
-      }
-
-  module _ (t : Result Unit KeyFault) (f : t ≡ read_answer (kind.flaw (take n after))) (g : is_err t ≡ false) where
+  module _ (t : Result Unit KeyFault) (f : t ≡ read_answer (kind.flaw (take n after))) (g : is_ok t ≡ true) where
     is_one : not (is_key (kind.flaw row.key)) ≡ false
-    is_one = ap not (is_read t false f g)
-
-    pub row_elsewhere : (vs vs' : List View) (start : ℕ) → start ≡ section_of l e.label.number → (start ≡ s → ⊥) → IndexesRow kind k l s p row vs vs' (Err (WrongSection s p))
-    row_elsewhere vs vs' start home ne =
-        let b : eqb (section_of l row.label.number) s ≡ false = ne_eqb _ _ (λ q. ne (home ∙ ap (section_of l) read_number ∙ q)) in
-        let a : row_fault kind l (filed_at s p row ∷ []) ≡ Some (WrongSection s p) = cond-false _ _ _ is_one ∙ cond-true _ _ _ (ap not b) in
-        record {
-          answer = ap (λ o. or_fault o tt) (sym a);
-          noted = λ none. (let z : ◌≡◌ {A = Option ArchiveFault} (Some (WrongSection s p)) None = sym a ∙ none in let w : ◌≡◌ {A = ℕ} 0 1 = cc in absurd (omega arith));
-        }
+    is_one = ap not (key_of (kind.flaw row.key) t (f ∙ ap (λ x. read_answer (kind.flaw x)) read_key) g)
 
     pub row_in : (vs vs' : List View) (start offset code hash : ℕ) → start ≡ section_of l e.label.number → start ≡ s → offset ≡ e.label.number - s → code ≡ k.translated (take n after) → hash ≡ k.hashed code
         → Noted vs vs' s offset code (bucket_of hash) → IndexesRow kind k l s p row vs vs' (Ok tt)

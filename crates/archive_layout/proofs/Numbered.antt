@@ -1,5 +1,5 @@
 -- Walks along the records of a number, as loops make them. Assumes nothing.
-use Rattle.std.proofs.Common.{◌≡◌, ℕ, ◌+◌, ◌<◌, true, false, ◌⊎◌, List, [], ◌∷◌, ◌++◌, length, drop, is_some, Some, None, Option, sym, ap, ◌∙◌, subst, inl, inr, arith, length-append}
+use Rattle.std.proofs.Common.{◌≡◌, ℕ, ◌+◌, true, false, ◌⊎◌, List, [], ◌∷◌, ◌++◌, length, drop, is_some, Some, None, Option, sym, ap, ◌∙◌, subst, inl, inr}
 use Rattle.std.specs.List.{slice_get}
 use Rattle.std.proofs.lemmas.List.{drop_at, length-map, map-append}
 use Rattle.std.proofs.lemmas.Bool.{cond-true, cond-false, cases_Bool, eq-eqb, both_ways}
@@ -39,13 +39,6 @@ module _ {k : Coding} {width l n s offset : ℕ} {m : Meaning} {vs : List View} 
     came_more p f = goes_on k width l m vs n s at.fit at.lawful at.home done q here.0 p (subst (λ x. WalksNumber n s (rows_of m.sections s) done x) e w) here.1 here.2 f
 
     -- There are more than the walk has come by.
-    pub came_less : length done < length (those (bears_number n) (records_of m.sections))
-    came_less =
-        let x = subst (λ y. WalksNumber n s (rows_of m.sections s) done y) e w in
-        let a = ap length (at_home k width l m vs n s at.fit at.lawful at.home ∙ x.all ∙ ap (λ ys. done ++ ys) (rest_yes (bears_number n) s (rows_of m.sections s) q here.0 here.1 (eq-eqb _ _ here.2))) in
-        let b = length-append done (filed_at s q here.0 ∷ rest (bears_number n) s (rows_of m.sections s) (q + 1)) in
-        omega arith
-
     -- Its place follows those of the walk in a listing.
     pub listed_there : drop (length done) (places_of (those (bears_number n) (records_of m.sections))) ≡ record { number = n; position = q } ∷ places_of (rest (bears_number n) s (rows_of m.sections s) (q + 1))
     unfolding came_at

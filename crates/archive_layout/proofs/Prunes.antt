@@ -5,10 +5,10 @@ use Rattle.journal.specs.Meaning.{Meaning, Lawful}
 use Rattle.journal.specs.Calls.{pruned, or_fault, or_keep}
 use Rattle.journal.specs.Making.{between}
 use Rattle.rules.specs.declared.answer.Pruned.{Pruned}
-use Rattle.rules.specs.declared.answer.Pruned.TheVariants.{Unchanged, Struck}
+use Rattle.rules.specs.declared.answer.Pruned.TheVariants.{Struck}
 use Rattle.rules.specs.declared.answer.Counts.{Counts}
 use Rattle.rules.specs.declared.fault.ArchiveFault.{ArchiveFault}
-use Rattle.rules.specs.declared.fault.ArchiveFault.TheVariants.{NotLoaded, AlreadyLoaded, SectionSize, JournalLimits, KeyWidth}
+use Rattle.rules.specs.declared.fault.ArchiveFault.TheVariants.{AlreadyLoaded, SectionSize, JournalLimits, KeyWidth}
 use Rattle.rules.specs.State.{Kind, State, section_of, records_of, kept, distinct}
 use Rattle.rules.specs.Calls.{if_loaded, changed_if_loaded, floor_reaches, struck, prune_at, prune_answer, prune_next, prune_after, counts_answer, archive_limits, row_fault, fresh_load_fault, load_fault_by, load_fault, load_answer, loaded, load_after}
 use Rattle.index_layout.specs.Views.{View, Apart}
@@ -21,21 +21,12 @@ pub record PruneIs (s s' : State) (min : ℕ) (r : Result Pruned ArchiveFault) :
   pub after : s' ≡ prune_after s min
 
 module _ (s : State) (min : ℕ) where
-  pub prune_unloaded : s.size ≡ None → PruneIs s s min (Err NotLoaded)
-  prune_unloaded e = record {
-    answer = ap (λ o. if_loaded o (λ l. prune_at s (section_of l min))) (sym e);
-    after = sym (ap (λ o. changed_if_loaded o (λ l. prune_next s (section_of l min)) s) e);
-  }
-
   module _ (l start : ℕ) (e : s.size ≡ Some l) (home : start ≡ section_of l min) where
     by_start : (s' : State) (r : Result Pruned ArchiveFault) → r ≡ prune_at s start → s' ≡ prune_next s start → PruneIs s s' min r
     by_start s' r a b = record {
       answer = a ∙ ap (prune_at s) home ∙ ap (λ o. if_loaded o (λ l. prune_at s (section_of l min))) (sym e);
       after = b ∙ ap (prune_next s) home ∙ sym (ap (λ o. changed_if_loaded o (λ l. prune_next s (section_of l min)) s) e);
     }
-
-    pub prune_unchanged : floor_reaches s.floor start ≡ true → PruneIs s s min (Ok Unchanged)
-    prune_unchanged h = by_start s (Ok Unchanged) (sym (cond-true _ _ _ h)) (sym (cond-true _ _ _ h))
 
     pub prune_struck : (k : Coding) (width ns rs : ℕ) (m' : Meaning) (vs : List View) → floor_reaches s.floor start ≡ false → Fit k width l s.journal vs → Lawful s.journal → Apart vs
         → ns ≡ total (under start numbers) vs → rs ≡ total (under start records) vs → m' ≡ pruned s.journal start
@@ -46,9 +37,6 @@ module _ (s : State) (min : ℕ) where
         by_start (record { size = s.size; floor = Some start; journal = m' }) (Ok (Struck ns rs))
         (ap₂ (λ (x : ℕ) (y : ℕ). Ok (Struck x y)) a b ∙ sym (cond-false _ _ _ h))
         (ap (λ m. record { size = s.size; floor = Some start; journal = m }) to ∙ sym (cond-false _ _ _ h))
-
-pub counts_unloaded : (s : State) → s.size ≡ None → Err NotLoaded ≡ counts_answer s
-counts_unloaded s e = ap (λ o. if_loaded {X = Counts} o (λ _. Ok (record { records = length (kept s); numbers = distinct (kept s); floor = s.floor }))) (sym e)
 
 pub counts_are : (k : Coding) (width : ℕ) (s : State) (l ns rs : ℕ) (vs : List View) → s.size ≡ Some l → Fit k width l s.journal vs → Lawful s.journal → Apart vs
     → ns ≡ total numbers vs → rs ≡ total records vs → Ok (record { records = rs; numbers = ns; floor = s.floor }) ≡ counts_answer s

@@ -1,14 +1,13 @@
 -- A put, by the rules, on each of its ways. Assumes nothing.
-use Rattle.std.proofs.Common.{◌≡◌, ℕ, ◌-◌, ◌<◌, ◌≤◌, Bool, true, false, List, is_some, Some, None, Ok, Err, Result, sym, ap, ◌∙◌}
-use Rattle.std.proofs.lemmas.Bool.{cond-true, cond-false, lt-ltb, le-ltb, or_left, or_right, or_from}
+use Rattle.std.proofs.Common.{◌≡◌, ℕ, ◌-◌, ◌≤◌, Bool, true, false, List, is_some, Some, Ok, Result, sym, ap, ◌∙◌}
+use Rattle.std.proofs.lemmas.Bool.{cond-true, cond-false, le-ltb, or_right, or_from}
 use Rattle.journal.specs.declared.row.Label.{Label}
 use Rattle.journal.specs.declared.fault.JournalFault.{JournalFault}
 use Rattle.journal.specs.Meaning.{Meaning, Lawful}
 use Rattle.journal.specs.Calls.{append_answer, appended}
 use Rattle.rules.specs.declared.answer.Put.{Put}
-use Rattle.rules.specs.declared.answer.Put.TheVariants.{BelowFloor, AlreadyThere}
+use Rattle.rules.specs.declared.answer.Put.TheVariants.{AlreadyThere}
 use Rattle.rules.specs.declared.fault.ArchiveFault.{ArchiveFault}
-use Rattle.rules.specs.declared.fault.ArchiveFault.TheVariants.{NotLoaded}
 use Rattle.rules.specs.State.{State, section_of, or_zero}
 use Rattle.rules.specs.Calls.{is_below, is_there, if_loaded, changed_if_loaded, stored_by, put_at, put_answer, put_next, put_after, with_journal}
 use Rattle.index_layout.specs.Views.{View, first_in}
@@ -22,23 +21,12 @@ pub record PutIs (s s' : State) (multi : Bool) (label : Label) (key value : List
   pub after : s' ≡ put_after s multi label key value
 
 module _ (s : State) (multi : Bool) (label : Label) (key value : List ℕ) where
-  pub unloaded : s.size ≡ None → PutIs s s multi label key value (Err NotLoaded)
-  unloaded e = record {
-    answer = ap (λ o. if_loaded o (λ l. put_at l s multi label key value)) (sym e);
-    after = sym (ap (λ o. changed_if_loaded o (λ l. put_next l s multi label key value) s) e);
-  }
-
   module _ (l : ℕ) (e : s.size ≡ Some l) where
     by_size : (s' : State) (r : Result Put ArchiveFault) → r ≡ put_at l s multi label key value → s' ≡ put_next l s multi label key value → PutIs s s' multi label key value r
     by_size s' r a b = record {
       answer = a ∙ ap (λ o. if_loaded o (λ l. put_at l s multi label key value)) (sym e);
       after = b ∙ sym (ap (λ o. changed_if_loaded o (λ l. put_next l s multi label key value) s) e);
     }
-
-    pub under : label.number < or_zero s.floor → PutIs s s multi label key value (Ok BelowFloor)
-    under h =
-        let t : is_below s label.number ≡ true = lt-ltb _ _ h in
-        by_size s (Ok BelowFloor) (sym (cond-true _ _ _ t)) (sym (cond-true _ _ _ (or_left _ _ t)))
 
     pub already : or_zero s.floor ≤ label.number → is_there multi s label.number ≡ true → PutIs s s multi label key value (Ok AlreadyThere)
     already h there =

@@ -107,18 +107,6 @@ next_taken low n i s xs up h e =
         take_more ys n y l ∙ ap (λ x. take n ys ++ x ∷ []) q
 
 -- The two ends of the walk: none is left, or the last start that there can be.
-pub at_none : (n i : ℕ) (xs : List Section) → kept_from xs n ≡ drop i xs → i ≤ length xs → first_from xs n ≡ None → i ≡ length xs
-at_none n i xs h l e = let d = drop_end xs i (sym h ∙ first_none n xs e) in omega arith
-
-pub at_last : (low n i s : ℕ) (l : Limits) (xs : List Section) → Rising low xs → AllByRecursion (Within l) xs → kept_from xs n ≡ drop i xs → first_from xs n ≡ Some s → s ≡ 18446744073709551615 → i + 1 ≡ length xs
-at_last low n i s l xs up fit h e m =
-    let w = walk low n i s xs up h e in
-    let k = inside low n i s xs up h e in
-    let t : s + 1 ≡ 2 ^ 64 = omega arith in
-    let b = kept_none (2 ^ 64) xs (All-weaker (Within l) (λ (x : Section). x.start < 2 ^ 64) (λ x q. q.start) xs fit) in
-    let d = drop_end xs (i + 1) (sym w ∙ ap (kept_from xs) t ∙ b) in
-    omega arith
-
 pub none_above : (l : Limits) (n : ℕ) (xs : List Section) → AllByRecursion (Within l) xs → n ≡ 2 ^ 64 → kept_from xs n ≡ []
 none_above l n xs fit e = ap (kept_from xs) e ∙ kept_none (2 ^ 64) xs (All-weaker (Within l) (λ (x : Section). x.start < 2 ^ 64) (λ x q. q.start) xs fit)
 

@@ -6,6 +6,7 @@ ghost use Rattle.keys.specs.Faults.{parts_of};
 #[derive(Clone, Copy, Debug, PartialEq, Eq)]
 pub enum KeyFault {
     /// The bytes handed in are no key: the width where there are more or fewer, else the first bad place.
+    // One number for both, as the refusal shows it: a place is below the width.
     NotAKey { amount: u64 },
     /// A load met a row whose key bytes are no key of the archive's kind.
     StoredKey { section: u64, position: u64 },

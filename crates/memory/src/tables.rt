@@ -90,7 +90,8 @@ impl<'a> Memory<'a> {
             .position(|head| head.count == 0)
     }
 
-    // A row of the section `start` to the slot where it goes, where there is room.
+    // A row of the section `start` to the slot where it goes, where there is room. Label, key and value are handed on as the
+    // journal's own call has them.
     fn push(
         &mut self,
         slot: usize,

@@ -29,6 +29,7 @@ pub(crate) fn part(bytes: &[u8], at: usize, n: usize) -> &[u8]
     &bytes[at..at + n]
 }
 
+// Memory rows have the same: it asks for room, which no public function does.
 pub(crate) fn write(bytes: &mut [u8], at: usize, new: &[u8])
     requires { at + length new.now ≤ length bytes.old }
     ensures { bytes.new ≡ put bytes.old at new.now }

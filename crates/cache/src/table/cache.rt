@@ -16,6 +16,7 @@ use journal::row::{Entry, Label};
 #[derive(Drop)]
 pub struct Cache<J> {
     below: J,
+    /// In fixed memory, and always full of places: no length grows beside it.
     slots: [Option<RowCopy>; 16],
     /// The place that the next copy takes; they are taken in turn.
     next: usize,

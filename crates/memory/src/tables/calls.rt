@@ -40,6 +40,7 @@ impl<'a> Journal for Memory<'a> {
     }
 
     fn row_count(&self, start: u64) -> u64 {
+        // A `match`, here and in the append: of a closure over `self` that an `Option` calls a proof learns nothing.
         match self.find(start) {
             Some(slot) => self.heads[slot].count as u64,
             None => 0,
@@ -109,6 +110,7 @@ impl<'a> Memory<'a> {
     }
 
     /// Memory rows that keep nothing yet, whatever the slices held; of limits 0 where the check refuses.
+    // No `Result`, by rule: what was checked is not refused, and whoever forgot the check gets a journal that keeps nothing.
     pub fn start(records: &'a mut [RowRecord], bytes: &'a mut [u8], limits: Limits) -> Memory<'a>
         ensures fit { Well result }
         ensures meaning { meaning_of result ≡ made (start_fault limits (length records.old) (length bytes.old)) (empty limits) }

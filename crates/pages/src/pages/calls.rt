@@ -40,7 +40,8 @@ impl<'a> Pages<'a> {
     }
 
     /// The journal that these bytes hold, its floor 0; of limits 0 where the check refuses. No byte is touched.
-    // Kept beside no making that answers a Result: tried, and Rattle covers no type argument with a `&mut` and a ghost field.
+    // No `Result`, by rule: what was checked is not refused. A making beside it that answers one was tried, and Rattle covers no
+    // type argument with a `&mut` and a ghost field.
     pub fn mount(entries: &'a mut [u8], values: &'a mut [u8], limits: Limits) -> Pages<'a>
         ensures fit { Fits tt result }
         ensures meaning { means result ≡ made (mount_fault limits entries.old values.old) (decoded limits entries.old values.old) }

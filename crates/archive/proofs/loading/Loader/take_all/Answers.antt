@@ -1,20 +1,9 @@
 use Rattle.std.proofs.Common.{◌^◌, ◌<◌, refl, ◌∙◌, arith}
 use Rattle.std.proofs.lemmas.Result.{err_from_is_err_and}
 use Rattle.journal.proofs.Walks.{next_from}
-use Rattle.archive_layout.proofs.LoadWalk.{load_begins, load_end, load_slots, load_ready, load_more, load_fault_at}
-use Rattle.archive_layout.proofs.Reading.{read_none, read_so, read_on, read_both, read_start}
+use Rattle.archive_layout.proofs.LoadWalk.{load_begins, load_end, load_ready, load_more, load_fault_at}
+use Rattle.archive_layout.proofs.Reading.{read_none, read_on, read_both, read_start}
 use Rattle.archive.proofs.loading.Loader.take_all.Goals as goal
-
-pub loop-turn-init : goal.loop-turn-init
-loop-turn-init g c = (refl, refl, read_none (λ m law ready. load_begins _ _ law ready))
-
-pub returns-in_default : goal.returns-in_default
-returns-in_default g c =
-    let inv = c.loop-turn.invariant in
-    record {
-      reads = read_on inv.2 (read_start _ c.loop-turn.from c.start_from.result c.start_from.ensures) (λ m p q law ready. load_end law ready (p law ready) (q.stops law c.in_default.is));
-      same = (inv.0, inv.1);
-    }
 
 pub returns-in_err-rows : goal.returns-in_err-rows
 returns-in_err-rows g c =
@@ -43,10 +32,13 @@ loop-turn-preserved g c =
           (load_more law ready (p law ready) c.in-Some.start comes (q.1 law _ (load_ready law ready (p law ready) c.in-Some.start comes)) c.in_ok-rows.rows _ c.in_ok-rows.was c.saturating_add-count.ensures)),
     )
 
-pub returns : goal.returns
-returns g c =
+pub loop-turn-init : goal.loop-turn-init
+loop-turn-init g c = (refl, refl, read_none (λ m law ready. load_begins _ _ law ready))
+
+pub returns-in_default : goal.returns-in_default
+returns-in_default g c =
     let inv = c.loop-turn.invariant in
     record {
-      reads = read_so inv.2 (λ m p law ready. load_slots law ready (p law ready) (omega arith));
+      reads = read_on inv.2 (read_start _ c.loop-turn.from c.start_from.result c.start_from.ensures) (λ m p q law ready. load_end law ready (p law ready) (q.stops law c.in_default.is));
       same = (inv.0, inv.1);
     }

@@ -1,13 +1,10 @@
-use Rattle.std.proofs.Common.{◌<◌, ◌≤◌, length, refl, ◌∙◌, arith}
+use Rattle.std.proofs.Common.{◌<◌, length, ◌∙◌, arith}
 use Rattle.std.proofs.lemmas.Result.{err_from_is_err_and}
 use Rattle.journal.specs.Meaning.{rows_of}
-use Rattle.archive_layout.proofs.Loads.{part_none, part_row, part_there, part_room, part_more, part_fault, section_refused, section_in}
-use Rattle.archive_layout.proofs.Reading.{read_none, read_on, read_both, read_count}
+use Rattle.archive_layout.proofs.Loads.{part_row, part_there, part_room, part_more, part_fault, section_refused}
+use Rattle.archive_layout.proofs.Reading.{read_on, read_both, read_count}
 use Rattle.archive.specs.Parts.{kind_of}
 use Rattle.archive.proofs.loading.Loader.take_section.Goals as goal
-
-pub loop-position-init : goal.loop-position-init
-loop-position-init g c = (refl, refl, read_none (λ m law ys ready. part_none (kind_of g.T.Translator.translated g.K.Key.W g.K.Key.flaw c.args.self.now.translator.now) ready))
 
 pub returns-in_err-take_row-clause-reads : goal.returns-in_err-take_row-clause-reads
 returns-in_err-take_row-clause-reads g c =
@@ -24,9 +21,6 @@ returns-in_err-take_row-clause-reads g c =
     let row = pq.1 law ready.wide (part_row kind ready x.apart p lt) (part_there kind ready x.apart p lt) (part_room kind ready x.apart p lt) in
     section_refused kind ready _ f (part_fault kind ready x.apart p lt row f c.in_err-take_row.was)))
 
-pub returns-in_err-take_row-clause-same : goal.returns-in_err-take_row-clause-same
-returns-in_err-take_row-clause-same g c = (c.take_row.ensures.same.0 ∙ c.loop-position.invariant.0, c.take_row.ensures.same.1 ∙ c.loop-position.invariant.1)
-
 pub loop-position-preserved : goal.loop-position-preserved
 loop-position-preserved g c =
     let kind = kind_of g.T.Translator.translated g.K.Key.W g.K.Key.flaw c.args.self.now.translator.now in
@@ -40,13 +34,3 @@ loop-position-preserved g c =
           let p = pq.0 law ys ready in
           part_more kind ready x.apart p lt (pq.1 law ready.wide (part_row kind ready x.apart p lt) (part_there kind ready x.apart p lt) (part_room kind ready x.apart p lt)) c.in_ok-take_row.was),
     )
-
-pub returns : goal.returns
-returns g c =
-    let kind = kind_of g.T.Translator.translated g.K.Key.W g.K.Key.flaw c.args.self.now.translator.now in
-    let inv = c.loop-position.invariant in
-    record {
-      reads = read_on (read_count c.row_count-rows.ensures) inv.2 (λ m n p law ys ready.
-          let le : length (rows_of m.sections c.args.start) ≤ c.loop-position.position = omega arith in section_in kind ready _ (p law ys ready) le n);
-      same = (inv.0, inv.1);
-    }

@@ -1,13 +1,8 @@
 use Rattle.std.proofs.Common.{arith}
-use Rattle.index_layout.proofs.Held.{total_step, total_end}
+use Rattle.index_layout.proofs.Held.{total_end}
 use Rattle.index.specs.Slots.{views}
 use Rattle.archive.proofs.Fitting.{sixteen}
 use Rattle.archive.proofs.search.Search.candidates.Goals as goal
-
-pub loop-slot-preserved : goal.loop-slot-preserved
-loop-slot-preserved c =
-    let x = c.args.self.now.index.now in
-    (total_step _ (views x) c.loop-slot.slot c.loop-slot.count c.candidates_of-count.result (omega (arith, sixteen x)) c.candidates_of-count.ensures.is c.loop-slot.invariant.0, omega (arith, c.loop-slot.invariant.1, c.candidates_of-count.ensures.few))
 
 pub returns : goal.returns
 returns c =

@@ -1,9 +1,9 @@
-use Rattle.std.proofs.Common.{refl, subst, arith}
+use Rattle.std.proofs.Common.{refl, subst}
 use Rattle.index_layout.specs.Views.{view_at}
 use Rattle.index.specs.Slots.{views}
 use Rattle.archive_layout.specs.Keys.{Handled, HandledAt}
 use Rattle.archive_layout.proofs.Handles.{newest_at, older_at}
-use Rattle.archive_layout.proofs.Candidates.{count_begins, count_goes_on, count_some}
+use Rattle.archive_layout.proofs.Candidates.{count_begins, count_goes_on}
 use Rattle.archive.proofs.search.Search.candidates_of.Goals as goal
 
 pub loop-at-init : goal.loop-at-init
@@ -13,15 +13,6 @@ loop-at-init c =
     let w = newest_at v c.args.slot s.wanted.coded.code s.wanted.coded.hash c.newest-at.result c.newest-at.ensures.is c.newest-at.ensures.within in
     let b = count_begins v c.args.slot s.wanted.coded.code s.wanted.coded.hash c.newest-at.result w c.newest-at.ensures.within in
     (w.handled, b.0, b.1)
-
-pub overflow_add-count : goal.overflow_add-count
-overflow_add-count c =
-    let s = c.args.self.now in
-    let v = view_at (views s.index.now) c.args.slot in
-    let inv = c.loop-at.invariant in
-    let here : HandledAt v c.args.slot s.wanted.coded.code s.wanted.coded.hash c.in-Some.handle = subst (Handled v c.args.slot s.wanted.coded.code s.wanted.coded.hash) c.in-Some.is inv.0 in
-    let b = count_some v c.args.slot s.wanted.coded.code s.wanted.coded.hash c.in-Some.handle c.loop-at.count c.loop-at.at c.in-Some.is here (omega (arith, inv.1, inv.2)) in
-    omega (arith, b)
 
 pub loop-at-preserved : goal.loop-at-preserved
 loop-at-preserved c =

@@ -1,10 +1,7 @@
 use Rattle.std.proofs.Common.{arith}
-use Rattle.archive_layout.proofs.Reading.{read_none, read_so, read_on}
-use Rattle.archive_layout.proofs.Searches.{listed_none, listed_end, listed_more, listed_most}
+use Rattle.archive_layout.proofs.Reading.{read_so, read_on}
+use Rattle.archive_layout.proofs.Searches.{listed_end, listed_more, listed_most}
 use Rattle.archive.proofs.search.Search.count.Goals as goal
-
-pub loop-count-init : goal.loop-count-init
-loop-count-init g c = read_none (λ m k width known. listed_none m _)
 
 pub returns-in_default : goal.returns-in_default
 returns-in_default g c = read_on c.loop-count.invariant c.next.ensures (λ m p q k width known. listed_end known (p k width known) (q k width known) c.in_default.is)

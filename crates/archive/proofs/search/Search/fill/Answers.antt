@@ -1,13 +1,10 @@
-use Rattle.std.proofs.Common.{◌≡◌, ◌<◌, length, take, None, sym, refl, ap, ◌∙◌, arith}
+use Rattle.std.proofs.Common.{◌≡◌, ◌<◌, length, take, None, sym, ap, ◌∙◌, arith}
 use Rattle.std.proofs.lemmas.List.{take_all}
 use Rattle.archive_layout.specs.Keys.{listed_from}
 use Rattle.archive_layout.proofs.Listing.{fill_more}
-use Rattle.archive_layout.proofs.Reading.{read_none, read_so, read_on}
-use Rattle.archive_layout.proofs.Searches.{listed_none, listed_end, listed_more, listed_at}
+use Rattle.archive_layout.proofs.Reading.{read_so, read_on}
+use Rattle.archive_layout.proofs.Searches.{listed_end, listed_more, listed_at}
 use Rattle.archive.proofs.search.Search.fill.Goals as goal
-
-pub loop-place-init : goal.loop-place-init
-loop-place-init g c = read_none (λ m k width known. (listed_none m _, refl))
 
 -- No place is left empty.
 pub returns-in_default : goal.returns-in_default

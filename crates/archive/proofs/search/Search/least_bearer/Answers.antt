@@ -5,9 +5,6 @@ use Rattle.archive_layout.proofs.Searches.{none_passed, shown, passed_more, pass
 use Rattle.archive.proofs.Fitting.{sixteen}
 use Rattle.archive.proofs.search.Search.least_bearer.Goals as goal
 
-pub loop-turn-init : goal.loop-turn-init
-loop-turn-init g c = read_none (λ m k width known. none_passed known _ _)
-
 pub loop-turn-preserved : goal.loop-turn-preserved
 loop-turn-preserved g c =
     let x = c.args.self.now.index.now in
@@ -33,6 +30,9 @@ returns-in_err-slot g c =
     let from = c.loop-turn.from in
     read_so c.loop-turn.invariant (λ m p k width known.
     c.from_residual.ensures ∙ passed_rest known x.apart (sixteen x) from (p k width known) c.slot_from.result c.slot_from.ensures c.in_err-slot.was)
+
+pub loop-turn-init : goal.loop-turn-init
+loop-turn-init g c = read_none (λ m k width known. none_passed known _ _)
 
 pub returns : goal.returns
 returns g c =

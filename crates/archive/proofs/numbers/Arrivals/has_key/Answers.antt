@@ -2,11 +2,7 @@ use Rattle.std.proofs.Common.{ℕ, ◌<◌, [], ◌∷◌, ◌++◌, IfSome, Som
 use Rattle.archive_layout.proofs.Reading.{read_none, read_so, read_on}
 use Rattle.archive_layout.proofs.Numbered.{came_none, came_at, came_more, both_missed, both_met, both_absent}
 use Rattle.archive.proofs.Fitting.{numbered}
-use Rattle.archive.proofs.numbers.Arrivals.bear.Goals as goal
-
-pub loop-at-init : goal.loop-at-init
-loop-at-init g c =
-    (c.first_of-at.ensures.within, read_none (λ m k width law fit. ([], came_none (numbered c.args.self.now law fit) c.first_of-at.result c.first_of-at.ensures.is, λ wide. refl)))
+use Rattle.archive.proofs.numbers.Arrivals.has_key.Goals as goal
 
 pub returns-then-is_some : goal.returns-then-is_some
 returns-then-is_some g c =
@@ -34,3 +30,7 @@ loop-at-preserved g c = (
 pub returns : goal.returns
 returns g c =
     read_so c.loop-at.invariant.1 (λ m p k width law fit wide. let d = p k width law fit in both_absent (numbered c.args.self.now law fit) c.args.key.now d.0 c.loop-at.at c.in_default.is d.1 (d.2 wide))
+
+pub loop-at-init : goal.loop-at-init
+loop-at-init g c =
+    (c.first_of-at.ensures.within, read_none (λ m k width law fit. ([], came_none (numbered c.args.self.now law fit) c.first_of-at.result c.first_of-at.ensures.is, λ wide. refl)))

@@ -5,7 +5,7 @@ use Rattle.index.specs.Slots.{views}
 use Rattle.archive_layout.specs.Fit.{Coding, Fit}
 use Rattle.archive_layout.specs.Walks.{WalksNumber, from_link}
 use Rattle.archive_layout.specs.Promises.{Reads}
-use Rattle.archive.proofs.numbers.Arrivals.bear.Given as goal
+use Rattle.archive.proofs.numbers.Arrivals.has_key.Given as goal
 
 abbrev pub invariant-loop-at : goal.invariant-loop-at
 invariant-loop-at g l =
