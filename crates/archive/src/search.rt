@@ -45,7 +45,7 @@ pub(crate) fn bearer<J: Journal>(
     }
 }
 
-// The first of a place and the best so far, which has the higher position.
+// The first of a place and the best so far, which has the higher position. By number alone, so `min` of places is another rule.
 fn nearer(place: Place, best: Option<Place>) -> Option<Place>
     ensures { result ≡ Some (lower place best) }
 {

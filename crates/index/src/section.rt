@@ -9,7 +9,8 @@ pub mod ops;
 use crate::row::{Ends, Row};
 use arrayvec::ArrayVec;
 
-/// A kept section: its rows by position, and where the chains of the numbers and of the buckets begin and end.
+/// A kept section: its rows by position, and where the chains of the numbers and of the buckets begin and end. Two tables
+/// beside the rows, since each goes by another key, in fixed memory.
 #[derive(Drop)]
 pub struct Section {
     start: u64,

@@ -65,6 +65,7 @@ const BARE: FaultParts = FaultParts {
 
 impl JournalFault {
     /// The five parts; what a refusal does not name is 0.
+    // The conversion that `From` is made of, and a method for whoever only looks at a fault.
     pub fn parts(&self) -> FaultParts
         ensures { result ≡ parts_of self.now }
     {

@@ -15,6 +15,7 @@ use limits::Limits;
 use row::{Entry, Label};
 
 /// Rows in sections, by start and position. Reads take `&mut self`, so that a cache may fill itself.
+// A start goes alone as often as with a position, and label, key and value only here: so the calls take numbers and slices.
 pub trait Journal {
     /// What the journal holds, as plain data: all that an answer may rest on.
     ghost meaning: { Self → Meaning };
@@ -70,7 +71,7 @@ pub trait Journal {
     ) -> Result<u64, JournalFault>
         ensures { ReadsValue fits meaning self.old self.new start position value.old value.new result };
 
-    /// Drops the sections that start below `min`, which the floor then is at least; answers whether one went.
+    /// Drops the sections that start below `min`, which the floor then is at least; answers whether one went, which is no refusal.
     fn prune(&mut self, min: u64) -> bool
         ensures { Prunes fits meaning self.old self.new min result };
 }

@@ -8,6 +8,7 @@ ghost use Rattle.journal.specs.Slots.{nearest, goes};
 use crate::row::CHECK_SIZE;
 
 /// The nearer to `from`, from above, of the best start so far and a slot's.
+// The slots are looked at in any order, so neither `min` of all starts nor a sorted search serves.
 pub fn nearer(best: Option<u64>, rows: u64, start: u64, from: u64) -> Option<u64>
     ensures { result ≡ nearest best rows start from }
 {

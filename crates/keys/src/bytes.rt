@@ -5,6 +5,7 @@ ghost use Rattle.keys.specs.Reading.{taken};
 
 use crate::fault::KeyFault;
 
+/// `==` itself, under a contract that says what it decides.
 pub fn same_bytes(a: &[u8], b: &[u8]) -> bool
     ensures { Decides result (a.now ≡ b.now) }
 {

@@ -33,6 +33,7 @@ const BARE: FaultParts = FaultParts {
 };
 
 impl KeyFault {
+    // The conversion that `From` is made of, and a method for whoever only looks at a fault.
     pub fn parts(&self) -> FaultParts
         ensures { result ≡ parts_of self.now }
     {

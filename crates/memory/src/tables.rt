@@ -188,7 +188,7 @@ fn prune_heads(heads: &mut [Head], min: u64) -> bool
     gone
 }
 
-// What a prune by `min` leaves of a slot.
+// What a prune by `min` leaves of a slot: a rule, and no conversion.
 fn left(head: Head, min: u64) -> Head
     ensures { result ≡ pruned_head min head }
 {

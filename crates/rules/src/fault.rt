@@ -42,6 +42,7 @@ const BARE: FaultParts = FaultParts {
 
 impl ArchiveFault {
     /// The five parts; what a refusal does not name is 0, and a refusal from below keeps its own.
+    // The conversion that `From` is made of, and a method for whoever only looks at a fault.
     pub fn parts(&self) -> FaultParts
         ensures { result ≡ parts_of self.now }
     {

@@ -21,7 +21,7 @@ fn in_slot(slot: usize, position: Option<u64>) -> Option<u64>
     position.map(|p| slot as u64 * POSITIONS + p)
 }
 
-/// The nearer to a number of the best so far and what a slot more holds.
+/// The nearer to a number of the best so far and what a slot more holds. By the start alone: pairs would go by the slot first.
 fn nearer(
     best: Option<(usize, u64)>,
     from: u64,
