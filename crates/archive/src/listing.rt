@@ -57,6 +57,7 @@ impl Search<'_> {
         }
         let mut count = 0;
         let mut at = self.index.newest(slot, self.wanted.coded);
+        // Along links, each to a lower position: nothing is counted to.
         while let Some(handle) = at {
             count += 1;
             at = self.index.older(handle, self.wanted.coded);

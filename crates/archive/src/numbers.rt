@@ -40,12 +40,14 @@ impl<'a> Arrivals<'a> {
         }
     }
 
+    // Counting and filling stay two walks, as for a key: one adds, the other lays places, and a walk has no more than that.
     /// How many records bear the number.
     pub(crate) fn count(&self) -> u64
         ensures { (k : Coding) (width : ℕ) (m : Meaning) → Lawful m → Fit k width self.now.size m (views self.now.index.now) → result ≡ length (those (bears_number self.now.number) (records_of m.sections)) }
     {
         let mut count = 0;
         let mut at = self.index.first_of(self.start, self.offset);
+        // Along links, each to a higher position: nothing is counted to.
         while let Some(position) = at {
             count += 1;
             at = self.index.next_of(self.start, position);
@@ -73,6 +75,7 @@ impl<'a> Arrivals<'a> {
         ensures { Reads J.Journal.fits J.Journal.meaning journal.old journal.new (λ m. (k : Coding) (width : ℕ) → Lawful m → Fit k width self.now.size m (views self.now.index.now) → length key.now ≡ m.limits.width → result ≡ some_in (those (bears_both self.now.number key.now) (records_of m.sections))) }
     {
         let mut at = self.index.first_of(self.start, self.offset);
+        // Along links, each to a higher position: nothing is counted to.
         while let Some(position) = at {
             if bearer(journal, self.start, position, key).is_some() {
                 return true;

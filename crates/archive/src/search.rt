@@ -103,6 +103,7 @@ impl Search<'_> {
         let Wanted { key, coded } = self.wanted;
         let mut best = None;
         let mut at = self.index.newest(slot, coded);
+        // Along links, each to a lower position: nothing is counted to.
         while let Some(handle) = at {
             let (_, position) = unpack(handle);
             best = better(journal, start, position, key, after, best);
@@ -136,10 +137,8 @@ impl Search<'_> {
     fn start_behind(&self, after: Option<Place>) -> u64
         ensures { result ≡ start_behind self.now.size after }
     {
-        match after {
-            Some(place) => section_of(self.size, place.number),
-            None => 0,
-        }
+        let size = self.size;
+        after.map_or(0, |place| section_of(size, place.number))
     }
 
     /// The least bearer of the key behind a place, of all that there are.

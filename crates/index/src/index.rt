@@ -12,6 +12,7 @@ use crate::section::Section;
 #[derive(Drop)]
 pub struct Index {
     slots: [Option<Section>; 16],
+    // Proofs of searches cite the length by name.
     ghost sized: { length slots ≡ 16 },
     ghost apart: { Apart (map slot_view slots) },
 }

@@ -14,6 +14,7 @@ use arrayvec::ArrayVec;
 #[derive(Drop)]
 pub struct Section {
     start: u64,
+    /// Kept beside the tables, so that counting the numbers walks over nothing.
     distinct: usize,
     rows: ArrayVec<Row, 128>,
     numbers: [Option<Ends>; 64],

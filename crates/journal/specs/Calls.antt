@@ -7,7 +7,7 @@
 --   kept_from xs n            the sections of xs that start at or above n
 --   any_below xs n            whether a section of xs starts below n
 --   pruned m n                the meaning after a prune by n
---   row_read, row_buffer      the answer of reading a whole row, a refusal by its parts, and the value's buffer after it
+--   row_read, row_buffer      the answer of reading a whole row, a refusal as the journal gave it, and the value's buffer after it
 -- A function by cases takes what it is by cases on as an argument, so that a fact about that can be put to use.
 use Rattle.std.specs.Prelude.{ℕ, ◌+◌, max, Bool, true, false, cond, not, List, [], ◌∷◌, ◌++◌, length, drop, Some, None, Ok, Err, Option, Result, ◌==◌, nat_lt}
 use Rattle.journal.specs.declared.row.Label.{Label}

@@ -73,6 +73,7 @@ fn sum_of(bytes: &[u8; 11]) -> u32
     sum
 }
 
+// An `Option`, as the rule has it, so that a stricter rule may leave a sum without a digit.
 fn digit_of(sum: u32) -> Option<u8>
     ensures { result ≡ iso.digit_of (sum % 11) }
 {

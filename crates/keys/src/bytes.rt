@@ -16,6 +16,7 @@ pub fn same_bytes(a: &[u8], b: &[u8]) -> bool
 pub(crate) fn exactly<const N: usize>(from: &[u8]) -> Result<[u8; N], KeyFault>
     ensures { result ≡ taken N from.now }
 {
+    // A `match`: with `map_err` the check was left with the refusal to show.
     match <[u8; N]>::try_from(from) {
         Ok(bytes) => Ok(bytes),
         Err(_) => Err(KeyFault::NotAKey { amount: N as u64 }),

@@ -19,7 +19,7 @@ use memory_layout::head::Head;
 use memory_layout::record::RowRecord;
 use std::marker::Model;
 
-/// A journal in two slices, one of records and one of bytes. Which row lies where is its own affair.
+/// A journal in two lent slices, one of records and one of the bytes that they tell of. Which row lies where is its own affair.
 #[derive(Drop)]
 pub struct Memory<'a> {
     records: &'a mut [RowRecord],

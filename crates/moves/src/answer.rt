@@ -27,6 +27,7 @@ pub enum Answer<'a> {
     },
     Value(Vec<u8>),
     Cut {
+        /// Whether a section went, as the journal answers it.
         gone: bool,
         floor: u64,
     },

@@ -44,9 +44,15 @@ fn from_hex(heap: Global, text: &str) -> Result<Vec<u8>, Stop> {
     Ok(bytes)
 }
 
+// The key of any kind that gives these bytes.
+fn key_of<K: Key + Drop>(bytes: &[u8]) -> Result<K, Stop> {
+    let mut key = K::first();
+    key.read(bytes)?;
+    Ok(key)
+}
+
 fn read_box(text: &str) -> Result<Answer<'_>, Stop> {
-    let mut number = BoxNumber::first();
-    number.read(text.as_bytes())?;
+    let number: BoxNumber = key_of(text.as_bytes())?;
     Ok(Answer::Box {
         number: text,
         sum: number.check_sum(),
@@ -56,34 +62,29 @@ fn read_box(text: &str) -> Result<Answer<'_>, Stop> {
 
 fn read_digest<'a>(heap: Global, text: &str) -> Result<Answer<'a>, Stop> {
     let bytes = from_hex(heap, text)?;
-    let mut digest = Digest::first();
-    digest.read(bytes.as_slice())?;
-    Ok(Answer::Digest(digest))
+    Ok(Answer::Digest(key_of(bytes.as_slice())?))
 }
 
 fn is_hex(text: &str) -> bool {
     text.bytes().all(|b| hex_digit(b).is_some())
 }
 
-fn translated<'a>(by: AnyTranslator, key: &[u8]) -> Answer<'a> {
-    let translated = by.translate(key);
-    Answer::Translated {
+fn translated<'a, K: Key + Drop>(by: AnyTranslator, bytes: &[u8]) -> Result<Answer<'a>, Stop> {
+    let key: K = key_of(bytes)?;
+    let translated = by.translate(key.as_bytes());
+    Ok(Answer::Translated {
         translated,
         hash: by.hash(translated),
-    }
+    })
 }
 
 // A key of 64 hexadecimal digits is a digest, and any other is a box number.
 fn translate<'a>(heap: Global, by: AnyTranslator, key: &str) -> Result<Answer<'a>, Stop> {
     if key.len() == 64 && is_hex(key) {
         let bytes = from_hex(heap, key)?;
-        let mut digest = Digest::first();
-        digest.read(bytes.as_slice())?;
-        return Ok(translated(by, bytes.as_slice()));
+        return translated::<Digest>(by, bytes.as_slice());
     }
-    let mut number = BoxNumber::first();
-    number.read(key.as_bytes())?;
-    Ok(translated(by, key.as_bytes()))
+    translated::<BoxNumber>(by, key.as_bytes())
 }
 
 // A buffer of the size asked for. No value is as long as 65,536 bytes, so a longer buffer would change no answer.

@@ -9,7 +9,7 @@ use crate::layout::Layout;
 use journal::fault::JournalFault;
 use journal::limits::{Limits, NOTHING};
 
-/// The entries, where limits and lengths go together.
+/// The entries, where limits and lengths go together. Entries, values and limits are what the public calls are handed.
 fn sized<'a>(entries: &'a [u8], values: &[u8], limits: Limits) -> Option<Entries<'a>>
     ensures { MatchOption result (mount.sized limits (length entries.now) (length values.now) ≡ false) (λ e. (mount.sized limits (length entries.now) (length values.now) ≡ true) × (e.bytes.now ≡ entries.now) × (e.layout.limits ≡ limits)) }
 {

@@ -17,7 +17,7 @@ use crate::value::{SEAL_SIZE, write_value};
 use journal::row::{CHECK_SIZE, Label};
 use journal::slots::below;
 
-/// Two slices of bytes, long enough for all slots: all that a write keeps, whatever it writes.
+/// Two slices of bytes, as the format has them, long enough for all slots: all that a write keeps, whatever it writes.
 #[derive(Drop)]
 pub(crate) struct Raw<'a> {
     pub(crate) entries: &'a mut [u8],
@@ -118,7 +118,7 @@ impl<'a> Raw<'a> {
         self.set_head(slot, start, count + 1);
     }
 
-    /// Frees a slot whose section starts below `min`, and tells whether it did.
+    /// Frees a slot whose section starts below `min`, and tells whether it did, which is the answer and no refusal.
     fn free_below(&mut self, slot: u64, min: u64) -> bool
         requires { slot < self.old.layout.limits.slots }
         ensures answer { result ≡ state.below self.old.layout.limits self.old.entries.now min slot }

@@ -131,6 +131,7 @@ impl Index {
         ensures is { is_ok result ≡ ((view_at (views self.old) slot).used && takes (view_at (views self.old) slot) offset) }
         ensures views { views self.new ≡ (if is_ok result then slice_set (views self.old) slot (grown (view_at (views self.old) slot) offset key.code (bucket_of key.hash)) else views self.old) }
     {
+        // By index, since of a `get_mut` a proof learns the length alone.
         if slot >= 16 {
             return Err(NoRoom);
         }

@@ -121,6 +121,7 @@ impl Section {
         ensures before { IfSome result (λ p. p < link from) }
     {
         let mut at = from;
+        // Along links, each to a lower position: nothing is counted to.
         while let Some(position) = at {
             let row = self.rows[position as usize];
             if row.code == code {
