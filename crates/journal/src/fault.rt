@@ -64,67 +64,59 @@ const BARE: FaultParts = FaultParts {
 };
 
 impl JournalFault {
+    fn number(&self) -> u64
+        ensures { result ≡ (parts_of self.now).number }
+    {
+        match self {
+            JournalFault::WrongWidth => 3,
+            JournalFault::WrongSizes => 4,
+            JournalFault::BadHeader { .. } => 5,
+            JournalFault::BadRow { .. } => 6,
+            JournalFault::Damaged { .. } => 7,
+            JournalFault::BelowFloor { .. } => 11,
+            JournalFault::NoSlot { .. } => 12,
+            JournalFault::RowsFull { .. } => 13,
+            JournalFault::BytesFull { .. } => 14,
+            JournalFault::Short { .. } => 15,
+            JournalFault::NoRow { .. } => 16,
+        }
+    }
+
     /// The five parts; what a refusal does not name is 0.
     // The conversion that `From` is made of, and a method for whoever only looks at a fault.
     pub fn parts(&self) -> FaultParts
         ensures { result ≡ parts_of self.now }
     {
+        let bare = FaultParts {
+            number: self.number(),
+            ..BARE
+        };
         match *self {
-            JournalFault::WrongWidth => FaultParts { number: 3, ..BARE },
-            JournalFault::WrongSizes => FaultParts { number: 4, ..BARE },
-            JournalFault::BadHeader { slot } => FaultParts {
-                number: 5,
-                section: slot,
-                ..BARE
-            },
-            JournalFault::BadRow { slot, row } => FaultParts {
-                number: 6,
-                section: slot,
-                position: row,
-                ..BARE
-            },
-            JournalFault::Damaged { section, position } => FaultParts {
-                number: 7,
+            JournalFault::WrongWidth | JournalFault::WrongSizes => bare,
+            JournalFault::BadHeader { slot: section }
+            | JournalFault::BelowFloor { section }
+            | JournalFault::NoSlot { section }
+            | JournalFault::RowsFull { section }
+            | JournalFault::BytesFull { section } => FaultParts { section, ..bare },
+            JournalFault::BadRow {
+                slot: section,
+                row: position,
+            }
+            | JournalFault::Damaged { section, position }
+            | JournalFault::NoRow { section, position } => FaultParts {
                 section,
                 position,
-                ..BARE
-            },
-            JournalFault::BelowFloor { section } => FaultParts {
-                number: 11,
-                section,
-                ..BARE
-            },
-            JournalFault::NoSlot { section } => FaultParts {
-                number: 12,
-                section,
-                ..BARE
-            },
-            JournalFault::RowsFull { section } => FaultParts {
-                number: 13,
-                section,
-                ..BARE
-            },
-            JournalFault::BytesFull { section } => FaultParts {
-                number: 14,
-                section,
-                ..BARE
+                ..bare
             },
             JournalFault::Short {
                 section,
                 position,
                 amount,
             } => FaultParts {
-                number: 15,
                 section,
                 position,
                 amount,
-                ..BARE
-            },
-            JournalFault::NoRow { section, position } => FaultParts {
-                number: 16,
-                section,
-                position,
-                ..BARE
+                ..bare
             },
         }
     }
