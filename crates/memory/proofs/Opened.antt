@@ -11,7 +11,7 @@ use Rattle.journal.specs.Meaning.{Row, row_at, rows_of, first_from}
 use Rattle.journal.specs.Slots.{nearest, goes}
 use Rattle.memory_layout.specs.View.{View, Well, Holds, Nowhere, Vacant, AllTaken, Lies, Goes, Stores, Drops, head, kept_row, meaning_of, next_at, stored, room_fault, pruned_head, with_heads}
 use Rattle.memory_layout.specs.declared.head.Head.{Head}
-use Rattle.memory_layout.proofs.Room.{row_within, record_within, next_fits, row_fits}
+use Rattle.memory_layout.proofs.Room.{row_within, next_fits, row_fits}
 use Rattle.memory_layout.proofs.Seen.{rows_length, found, row_found, row_past, first_folded}
 use Rattle.memory_layout.proofs.Prune.{pruned_front}
 use Rattle.memory_layout.proofs.Appends.{none_free, full, has_place, takes, none_found, fault_found}
@@ -24,9 +24,6 @@ module _ (v w : View) (e : v ≡ w) (well : Well v) where
 
   pub row_over : (t s p : ℕ) → Holds w t s → (head v t).count ≤ p → row_at (meaning_of w) s p ≡ None
   row_over t s p h l = subst (λ (x : View). Holds x t s → row_at (meaning_of x) s p ≡ None) e (λ f. row_past v well t s p f l) h
-
-  pub record_in : (t s p : ℕ) → Holds w t s → p < (head v t).count → t * v.rows + p < length v.records
-  record_in t s p h l = record_within v well t p (subst (λ (x : View). t < x.slots) (sym e) h.slot) l
 
   pub counted_rows : (t s : ℕ) → Holds w t s → (head v t).count ≡ length (rows_of (meaning_of w).sections s)
   counted_rows t s h =
