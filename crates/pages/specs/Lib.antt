@@ -1,3 +1,4 @@
 pub mod Raws
 pub mod Journals
 pub mod Lengths
+pub mod Looks

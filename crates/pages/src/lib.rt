@@ -4,6 +4,7 @@
 mod check;
 mod entries;
 mod layout;
+pub mod look;
 mod numbers;
 mod page;
 mod pages;

@@ -58,12 +58,19 @@ impl<'a> Page<'a> {
         }
     }
 
+    /// Whether the header's check is its own.
+    pub(crate) fn is_checked(&self) -> bool
+        ensures { result ≡ mount.checked_at self.now.bytes.now lay.head_check_at }
+    {
+        is_checked(self.bytes, HEAD_CHECK_AT)
+    }
+
     /// Whether the header is right by itself.
     pub(crate) fn is_head_right(&self) -> bool
         ensures { result ≡ mount.head_right self.now.layout.limits self.now.bytes.now }
     {
         let count = self.count();
-        0 < count && count <= self.layout.limits.rows && is_checked(self.bytes, HEAD_CHECK_AT)
+        0 < count && count <= self.layout.limits.rows && self.is_checked()
     }
 
     /// The first row that is not right.

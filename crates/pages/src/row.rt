@@ -49,13 +49,20 @@ impl<'a> Row<'a> {
         number_at::<4>(self.bytes, self.layout.size_at())
     }
 
+    /// Whether the row's check is its own.
+    pub(crate) fn is_checked(&self) -> bool
+        ensures { result ≡ mount.checked_at self.now.bytes.now (lay.row_check_at self.now.layout.limits.width) }
+    {
+        is_checked(self.bytes, self.layout.row_check_at())
+    }
+
     /// Whether the row is right, its value lying at `used`.
     pub(crate) fn fits(&self, used: u64) -> bool
         requires { used ≤ self.now.layout.limits.bytes }
         ensures { result ≡ mount.row_fits self.now.layout.limits.width self.now.layout.limits.bytes used self.now.bytes.now }
     {
         let size = self.size();
-        is_checked(self.bytes, self.layout.row_check_at())
+        self.is_checked()
             && self.offset() == used
             && CHECK_SIZE <= size
             && used + size <= self.layout.limits.bytes

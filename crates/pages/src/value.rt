@@ -5,6 +5,7 @@ ghost use Rattle.journal.specs.Meaning.{check_size, cost_of};
 ghost use Rattle.journal.specs.Calls.{content_answer, content_fill};
 ghost use Rattle.format.specs.Layout as lay;
 ghost use Rattle.format.specs.Decode as decode;
+ghost use Rattle.pages.specs.Looks.{is_bytes};
 
 use crate::numbers::{number_at, part, value_check, write, write_number};
 use journal::fault::JournalFault;
@@ -19,6 +20,15 @@ pub(crate) fn write_value(stretch: &mut [u8], value: &[u8])
 {
     write(stretch, 0, value);
     write_number::<SEAL_SIZE>(stretch, value.len(), u64::from(value_check(value)));
+}
+
+/// Whether the check behind a stored value is its own.
+pub(crate) fn is_value_checked(stored: &[u8]) -> bool
+    requires { check_size ≤ length stored.now }
+    ensures { result ≡ is_bytes (decode.content_of stored.now 0 (length stored.now - check_size)) }
+{
+    let size = stored.len() - SEAL_SIZE;
+    number_at::<SEAL_SIZE>(stored, size) == u64::from(value_check(part(stored, 0, size)))
 }
 
 /// A stored value to the front of `value`, where the check behind it is its own.
@@ -40,10 +50,9 @@ pub(crate) fn copy_value(
             amount: size as u64,
         });
     }
-    let bytes = part(stored, 0, size);
-    if number_at::<SEAL_SIZE>(stored, size) != u64::from(value_check(bytes)) {
+    if !is_value_checked(stored) {
         return Err(JournalFault::Damaged { section, position });
     }
-    write(value, 0, bytes);
+    write(value, 0, part(stored, 0, size));
     Ok(size as u64)
 }
