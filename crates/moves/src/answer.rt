@@ -1,5 +1,6 @@
 // The answer line of a command.
 
+use crate::dump::Dump;
 use keys::digest::Digest;
 use keys::kind::Key;
 use script::text::{Escaped, Hex};
@@ -32,6 +33,12 @@ pub enum Answer<'a> {
         floor: u64,
     },
     Sections(Vec<SectionTotal>),
+    Ready,
+    /// How many sections a file keeps.
+    Opened(u64),
+    /// How many bytes.
+    Saved(usize),
+    Dump(Dump),
 }
 
 // Sections parted by commas.
@@ -90,6 +97,10 @@ impl fmt::Display for Answer<'_> {
                 write!(f, "cut {gone} floor {floor}")
             }
             Answer::Sections(totals) => show_sections(totals.as_slice(), f),
+            Answer::Ready => f.write_str("journal ready"),
+            Answer::Opened(sections) => write!(f, "opened {sections} sections"),
+            Answer::Saved(bytes) => write!(f, "saved {bytes} bytes"),
+            Answer::Dump(dump) => write!(f, "{dump}"),
         }
     }
 }

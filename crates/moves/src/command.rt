@@ -1,14 +1,20 @@
 // A line of the script as a command: words parted by one space, and for some commands a text to the line's end.
 
+use crate::store::Medium;
 use journal::limits::Limits;
 use keys::translator::{AnyTranslator, Fnv, Leading};
 use std::fmt;
+use std::path::Path;
 
 #[derive(Clone, Copy, Debug, PartialEq, Eq)]
 pub enum Command<'a> {
     Ask(Question<'a>),
-    /// Begins a journal of memory rows.
-    Begin(Limits),
+    /// Begins a new journal.
+    Begin { on: Medium, limits: Limits },
+    /// Begins the journal of a file that was saved.
+    Open { file: &'a str, limits: Limits },
+    /// Lays a file open.
+    Dump { file: &'a str, limits: Limits },
     Call(JournalCall<'a>),
 }
 
@@ -34,6 +40,7 @@ pub enum JournalCall<'a> {
     ReadValue(Row),
     Cut(u64),
     Sections,
+    Save(&'a str),
 }
 
 /// A row to read, and the size of the buffer to read it into, where the line names one.
@@ -57,6 +64,10 @@ pub enum Misread {
     NotHexadecimal,
     OddDigits,
     NoJournal,
+    NoPages,
+    NotRelative,
+    NotRead,
+    NotWritten,
 }
 
 impl fmt::Display for Misread {
@@ -72,6 +83,10 @@ impl fmt::Display for Misread {
             Misread::NotHexadecimal => "not hexadecimal",
             Misread::OddDigits => "an odd count of hexadecimal digits",
             Misread::NoJournal => "no journal is begun",
+            Misread::NoPages => "the journal does not lie on pages",
+            Misread::NotRelative => "not a relative path",
+            Misread::NotRead => "the file cannot be read",
+            Misread::NotWritten => "the file cannot be written",
         })
     }
 }
@@ -116,6 +131,20 @@ impl<'a> Rest<'a> {
 
     fn last_number(self) -> Result<u64, Misread> {
         number(self.last_word()?)
+    }
+
+    // The four limits, to the end of the line.
+    fn limits(mut self) -> Result<Limits, Misread> {
+        let width = self.number()?;
+        let slots = self.number()?;
+        let rows = self.number()?;
+        let bytes = self.last_number()?;
+        Ok(Limits {
+            slots,
+            rows,
+            bytes,
+            width,
+        })
     }
 
     // The last number, where anything follows.
@@ -165,19 +194,29 @@ fn translate<'a>(mut rest: Rest<'a>) -> Result<Command<'a>, Misread> {
 }
 
 fn begin_journal<'a>(mut rest: Rest<'a>) -> Result<Command<'a>, Misread> {
-    if rest.word()? != "memory" {
-        return Err(Misread::UnknownJournal);
+    let on = match rest.word()? {
+        "memory" => Medium::Memory,
+        "pages" => Medium::Pages,
+        _ => return Err(Misread::UnknownJournal),
+    };
+    Ok(Command::Begin {
+        on,
+        limits: rest.limits()?,
+    })
+}
+
+fn relative(path: &str) -> Result<&str, Misread> {
+    if Path::new(path).is_absolute() {
+        return Err(Misread::NotRelative);
     }
-    let width = rest.number()?;
-    let slots = rest.number()?;
-    let rows = rest.number()?;
-    let bytes = rest.last_number()?;
-    Ok(Command::Begin(Limits {
-        slots,
-        rows,
-        bytes,
-        width,
-    }))
+    Ok(path)
+}
+
+// A file, and the limits of the journal in it.
+fn file_and_limits<'a>(mut rest: Rest<'a>) -> Result<(&'a str, Limits), Misread> {
+    let file = rest.word()?;
+    let limits = rest.limits()?;
+    Ok((relative(file)?, limits))
 }
 
 fn append<'a>(mut rest: Rest<'a>) -> Result<Command<'a>, Misread> {
@@ -210,6 +249,15 @@ impl<'a> TryFrom<&'a str> for Command<'a> {
             "translate" => translate(rest),
             "fnv" => Ok(Command::Ask(Question::Fnv(rest.text()))),
             "journal" => begin_journal(rest),
+            "journal_open" => {
+                let (file, limits) = file_and_limits(rest)?;
+                Ok(Command::Open { file, limits })
+            }
+            "dump" => {
+                let (file, limits) = file_and_limits(rest)?;
+                Ok(Command::Dump { file, limits })
+            }
+            "save" => Ok(Command::Call(JournalCall::Save(relative(rest.last_word()?)?))),
             "append" => append(rest),
             "read_entry" => Ok(Command::Call(JournalCall::ReadEntry(row_to_read(rest)?))),
             "read_value" => Ok(Command::Call(JournalCall::ReadValue(row_to_read(rest)?))),

@@ -1,19 +1,43 @@
-// The memory that a journal of memory rows is lent.
+// What a journal lies in: memory for rows, or the bytes of pages.
 
 use crate::stop::Stop;
+use journal::fault::JournalFault;
 use journal::limits::Limits;
 use memory::{Memory, RowRecord};
+use pages::Pages;
 use std::alloc::Global;
 
+/// Where a journal is to lie.
+#[derive(Clone, Copy, Debug, PartialEq, Eq)]
+pub enum Medium {
+    Memory,
+    Pages,
+}
+
 #[derive(Drop)]
-pub struct Store {
+pub enum Store {
+    Memory(Rows),
+    Pages(PageBytes),
+}
+
+/// The memory that a journal of memory rows is lent.
+#[derive(Drop)]
+pub struct Rows {
     pub records: Vec<RowRecord>,
     pub bytes: Vec<u8>,
     pub limits: Limits,
 }
 
+/// The bytes that a journal on pages is lent, or that are laid open.
+#[derive(Drop)]
+pub struct PageBytes {
+    pub entries: Vec<u8>,
+    pub values: Vec<u8>,
+    pub limits: Limits,
+}
+
 // How many records and bytes a journal of these limits wants; nothing for limits that no journal may have.
-fn sizes(limits: &Limits) -> (usize, usize) {
+fn rows_for(limits: &Limits) -> (usize, usize) {
     if !limits.in_range() {
         return (0, 0);
     }
@@ -27,20 +51,68 @@ fn sizes(limits: &Limits) -> (usize, usize) {
     )
 }
 
-/// Memory for a journal of these limits; refused where no such journal can begin.
-impl TryFrom<(Global, Limits)> for Store {
-    type Error = Stop;
-
-    fn try_from(wanted: (Global, Limits)) -> Result<Store, Stop> {
-        let (heap, limits) = wanted;
-        let (records, bytes) = sizes(&limits);
+impl Rows {
+    fn new(heap: Global, limits: Limits) -> Result<Rows, Stop> {
+        let (records, bytes) = rows_for(&limits);
         let records = vec![in heap; RowRecord::BLANK; records]?;
         let bytes = vec![in heap; 0; bytes]?;
         Memory::check(records.as_slice(), bytes.as_slice(), limits)?;
-        Ok(Store {
+        Ok(Rows {
             records,
             bytes,
             limits,
         })
+    }
+}
+
+// How many bytes the entries take; none for limits that no journal may have.
+fn entries_size(limits: Limits) -> usize {
+    match Pages::sizes(limits) {
+        Some(sizes) => sizes.entries,
+        None => 0,
+    }
+}
+
+fn values_size(limits: Limits) -> usize {
+    match Pages::sizes(limits) {
+        Some(sizes) => sizes.values,
+        None => 0,
+    }
+}
+
+impl PageBytes {
+    fn new(heap: Global, limits: Limits) -> Result<PageBytes, Stop> {
+        let pages = PageBytes {
+            entries: vec![in heap; 0; entries_size(limits)]?,
+            values: vec![in heap; 0; values_size(limits)]?,
+            limits,
+        };
+        pages.check()?;
+        Ok(pages)
+    }
+
+    /// The bytes of a file: what the entries take of its front, and the rest as the values. Nothing is checked yet.
+    pub fn from_file(heap: Global, file: &[u8], limits: Limits) -> Result<PageBytes, Stop> {
+        let at = entries_size(limits).min(file.len());
+        Ok(PageBytes {
+            entries: file[..at].to_vec(heap)?,
+            values: file[at..].to_vec(heap)?,
+            limits,
+        })
+    }
+
+    /// Why these bytes cannot be mounted, if they cannot.
+    pub fn check(&self) -> Result<(), JournalFault> {
+        Pages::check(self.entries.as_slice(), self.values.as_slice(), self.limits)
+    }
+}
+
+impl Store {
+    /// Memory for a new journal of these limits; refused where no such journal can begin.
+    pub fn new(heap: Global, on: Medium, limits: Limits) -> Result<Store, Stop> {
+        match on {
+            Medium::Memory => Ok(Store::Memory(Rows::new(heap, limits)?)),
+            Medium::Pages => Ok(Store::Pages(PageBytes::new(heap, limits)?)),
+        }
     }
 }
