@@ -5,6 +5,7 @@
 --   Does        a call: what fitted still fits, the answer is one that says allows at the state before, the state after is
 --               the one that next gives, and the translator is the same
 --   Tells       a call that changes nothing at all
+--   With        the answer is the first, and the buffer afterwards the second
 --   home_of     where a number that is to be stored has its section, by section size and floor
 -- An answer is a result together with the buffer afterwards, where there is one.
 use Rattle.std.specs.Prelude.{◌≡◌, ℕ, cond, List, Some, None, Ok, Err, Option, Result, nat_lt}
@@ -32,8 +33,11 @@ pub record Does {O J T K X : Type 0} (fits : O → J → Type 0) (meaning : J �
   pub after : (o : O) → Fits fits meaning translated hashed width o a → state_of meaning a' ≡ next (state_of meaning a)
   pub same : a'.translator ≡ a.translator
 
-abbrev pub Tells : {O J T K X : Type 0} → (O → J → Type 0) → (J → Meaning) → (T → List ℕ → ℕ) → (T → ℕ → ℕ) → ℕ → Archive J T K → (State → X) → X → Type 0
-Tells {O} fits meaning translated hashed width a says r = (o : O) → Fits fits meaning translated hashed width o a → r ≡ says (state_of meaning a)
+abbrev pub Tells : {O J T K X : Type 0} → (O → J → Type 0) → (J → Meaning) → (T → List ℕ → ℕ) → (T → ℕ → ℕ) → ℕ → Archive J T K → (State → X → Type 0) → X → Type 0
+Tells {O} fits meaning translated hashed width a says r = (o : O) → Fits fits meaning translated hashed width o a → says (state_of meaning a) r
+
+abbrev pub With : {X Y : Type 0} → X → Y → X × Y → Type 0
+With a b x = (x.0 ≡ a) × (x.1 ≡ b)
 
 abbrev pub home_of : Option ℕ → Option ℕ → ℕ → Result (Option ℕ) ArchiveFault
 home_of None floor n = Err NotLoaded

@@ -4,7 +4,11 @@ ghost use Rattle.std.specs.Prelude.{◌≡◌};
 ghost use Rattle.rules.specs.State.{new};
 ghost use Rattle.archive.specs.Archives.{state_of, Fits};
 
+mod gets;
+mod lists;
+mod loads;
 mod puts;
+mod questions;
 
 use index::index::Index;
 use journal::Journal;

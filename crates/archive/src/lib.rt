@@ -6,4 +6,5 @@ mod listing;
 mod loading;
 mod numbers;
 mod search;
+mod spots;
 mod wanted;

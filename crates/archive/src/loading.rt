@@ -31,6 +31,7 @@ pub(crate) fn no_room(start: u64) -> ArchiveFault
 }
 
 /// A load under way, with `size` numbers to a section; each row's key bytes are read into `key`.
+#[derive(Drop)]
 pub(crate) struct Loader<'a, T, K> {
     pub(crate) translator: &'a T,
     pub(crate) key: &'a mut K,
@@ -48,6 +49,7 @@ impl<T: Translator, K: Key> Loader<'_, T, K> {
     ) -> Result<(), ArchiveFault>
         ensures reads { Reads J.Journal.fits J.Journal.meaning journal.old journal.new (λ m. Lawful m → m.limits.width ≡ K.Key.W → (row : Row) → row_at m start position ≡ Some row → (section_of self.old.size row.label.number ≡ start → has_room (views self.old.index.now) start (row.label.number - start) ≡ true) → IndexesRow (kind_of T.Translator.translated K.Key.W K.Key.flaw self.old.translator.now) (coding_of T.Translator.translated T.Translator.hashed self.old.translator.now) self.old.size start position row (views self.old.index.now) (views self.new.index.now) result) }
         ensures same { (self.new.translator.now ≡ self.old.translator.now) × (self.new.size ≡ self.old.size) }
+        ensures same_references { (self.new.key.ghost_name ≡ self.old.key.ghost_name) × (self.new.index.ghost_name ≡ self.old.index.ghost_name) }
     {
         let mut buffer = [0u8; 32];
         let entry = journal.read_entry(start, position, &mut buffer)?;
@@ -74,6 +76,7 @@ impl<T: Translator, K: Key> Loader<'_, T, K> {
     fn take_section<J: Journal>(&mut self, journal: &mut J, start: u64) -> Result<u64, ArchiveFault>
         ensures reads { Reads J.Journal.fits J.Journal.meaning journal.old journal.new (λ m. Lawful m → (ys : List Section) → SectionReady (coding_of T.Translator.translated T.Translator.hashed self.old.translator.now) m (views self.old.index.now) ys self.old.size K.Key.W start → IndexesSection (kind_of T.Translator.translated K.Key.W K.Key.flaw self.old.translator.now) (coding_of T.Translator.translated T.Translator.hashed self.old.translator.now) self.old.size start (rows_of m.sections start) ys (views self.new.index.now) result) }
         ensures same { (self.new.translator.now ≡ self.old.translator.now) × (self.new.size ≡ self.old.size) }
+        ensures same_references { (self.new.key.ghost_name ≡ self.old.key.ghost_name) × (self.new.index.ghost_name ≡ self.old.index.ghost_name) }
     {
         let rows = journal.row_count(start);
         // Counted, since a journal is asked for a row by its position, and lends none of its rows.
@@ -87,6 +90,7 @@ impl<T: Translator, K: Key> Loader<'_, T, K> {
     pub(crate) fn take_all<J: Journal>(&mut self, journal: &mut J) -> Result<u64, ArchiveFault>
         ensures reads { Reads J.Journal.fits J.Journal.meaning journal.old journal.new (λ m. Lawful m → IndexReady m (views self.old.index.now) self.old.size K.Key.W → IndexesAll (kind_of T.Translator.translated K.Key.W K.Key.flaw self.old.translator.now) (coding_of T.Translator.translated T.Translator.hashed self.old.translator.now) self.old.size m.sections (views self.new.index.now) result) }
         ensures same { (self.new.translator.now ≡ self.old.translator.now) × (self.new.size ≡ self.old.size) }
+        ensures same_references { (self.new.key.ghost_name ≡ self.old.key.ghost_name) × (self.new.index.ghost_name ≡ self.old.index.ghost_name) }
     {
         let mut from = Some(0);
         let mut count = 0;

@@ -5,9 +5,11 @@ ghost use Rattle.journal.specs.Meaning.{Meaning, Lawful};
 ghost use Rattle.rules.specs.State.{section_of, those, records_of, some_in, bears_number, bears_both, places_of};
 ghost use Rattle.index.specs.Slots.{views};
 ghost use Rattle.archive_layout.specs.Fit.{Coding, Fit};
+ghost use Rattle.archive_layout.specs.Keys.{front, spot_in};
 ghost use Rattle.archive_layout.specs.Promises.{Reads};
 
 use crate::search::bearer;
+use archive_layout::spot::Spot;
 use index::index::Index;
 use journal::Journal;
 use rules::answer::Place;
@@ -38,6 +40,20 @@ impl<'a> Arrivals<'a> {
             start,
             offset: number.saturating_sub(start),
         }
+    }
+
+    /// Where the earliest record that bears the number lies.
+    pub(crate) fn first(&self) -> Option<Spot>
+        ensures { (k : Coding) (width : ℕ) (m : Meaning) → Lawful m → Fit k width self.now.size m (views self.now.index.now) → result ≡ spot_in (front (those (bears_number self.now.number) (records_of m.sections))) }
+    {
+        let position = self.index.first_of(self.start, self.offset)?;
+        Some(Spot {
+            start: self.start,
+            place: Place {
+                number: self.number,
+                position,
+            },
+        })
     }
 
     // Counting and filling stay two walks, as for a key: one adds, the other lays places, and a walk has no more than that.

@@ -22,3 +22,6 @@ pub mod Candidates
 pub mod Numbered
 pub mod Loading
 pub mod LoadWalk
+pub mod Founds
+pub mod Listed
+pub mod Loaded

@@ -9,6 +9,7 @@ use Rattle.index_layout.specs.Views.{View, first_in, next_in}
 use Rattle.index_layout.specs.Held.{found}
 use Rattle.archive_layout.specs.Fit.{Coding}
 use Rattle.archive_layout.specs.Walks.{filed_at, rest, WalksNumber}
+use Rattle.archive_layout.specs.Keys.{front, spot_in}
 use Rattle.archive_layout.specs.Promises.{bearer_of, Numbered}
 use Rattle.archive_layout.proofs.Rests.{rest_yes}
 use Rattle.archive_layout.proofs.Numbers.{at_home}
@@ -51,6 +52,15 @@ module _ {k : Coding} {width l n s offset : ℕ} {m : Meaning} {vs : List View} 
 
   pub came_all : (done : List Record) (o : Option ℕ) → o ≡ None → WalksNumber n s (rows_of m.sections s) done o → those (bears_number n) (records_of m.sections) ≡ done
   came_all done o e w = ends k width l m vs n s at.fit at.lawful at.home done (subst (λ x. WalksNumber n s (rows_of m.sections s) done x) e w)
+
+  -- Where the earliest record lies.
+  pub first_there : (o : Option ℕ) (q : ℕ) → o ≡ Some q → WalksNumber n s (rows_of m.sections s) [] o
+      → Some (record { start = s; place = record { number = n; position = q } }) ≡ spot_in (front (those (bears_number n) (records_of m.sections)))
+  first_there o q e w =
+      let h = w.here q e in
+      let x = subst (λ y. WalksNumber n s (rows_of m.sections s) [] y) e w in
+      sym (ap (λ ys. spot_in (front ys)) (at_home k width l m vs n s at.fit at.lawful at.home ∙ x.all ∙ rest_yes (bears_number n) s (rows_of m.sections s) q h.0 h.1 (eq-eqb _ _ h.2))
+      ∙ ap (λ i. Some (record { start = s; place = record { number = i; position = q } })) h.2)
 
   -- Records that bear a key beside the number.
   module _ (key : List ℕ) where

@@ -1,6 +1,6 @@
 -- A prune, the counts and a load, by the rules. Assumes nothing.
-use Rattle.std.proofs.Common.{◌≡◌, ℕ, true, false, not, eqb, List, length, Some, None, Ok, Err, Option, Result, sym, ap, ◌∙◌, ap₂}
-use Rattle.std.proofs.lemmas.Bool.{cond-true, cond-false}
+use Rattle.std.proofs.Common.{◌≡◌, ℕ, ◌<◌, ◌≤◌, Bool, true, false, cond, not, eqb, ◌⊎◌, List, length, Some, None, Ok, Err, Option, Result, sym, ap, ◌∙◌, ap₂, inl, inr, arith}
+use Rattle.std.proofs.lemmas.Bool.{cond-true, cond-false, cases_Bool, and_parts, leb-true, eqb-true}
 use Rattle.journal.specs.Meaning.{Meaning, Lawful}
 use Rattle.journal.specs.Calls.{pruned, or_fault, or_keep}
 use Rattle.journal.specs.Making.{between}
@@ -14,6 +14,7 @@ use Rattle.rules.specs.Calls.{if_loaded, changed_if_loaded, floor_reaches, struc
 use Rattle.index_layout.specs.Views.{View, Apart}
 use Rattle.index_layout.specs.Held.{total, under, records, numbers}
 use Rattle.archive_layout.specs.Fit.{Coding, Fit}
+use Rattle.archive_layout.specs.Loads.{load_check}
 use Rattle.archive_layout.proofs.Counting.{those_old, counted_records, counted_numbers}
 
 pub record PruneIs (s s' : State) (min : ℕ) (r : Result Pruned ArchiveFault) : Type 0 where
@@ -66,15 +67,41 @@ module _ (kind : Kind) (s : State) (l : ℕ) where
     new_fault : load_fault kind s l ≡ fresh_load_fault kind s.journal l
     new_fault = ap (λ o. load_fault_by kind o s.journal l) fresh
 
-    pub fault_size : between 1 l 64 ≡ false → load_fault kind s l ≡ Some SectionSize
-    fault_size a = new_fault ∙ cond-true _ _ _ (ap not a)
+    -- What the check before any row refuses, the load does; what it lets pass is decided by the rows.
+    pub fault_checked : (f : ArchiveFault) → load_check l s.journal.limits kind.width ≡ Some f → load_fault kind s l ≡ Some f
+    fault_checked f e = new_fault ∙ by (not (between 1 l 64)) (not (archive_limits s.journal.limits)) (not (eqb kind.width s.journal.limits.width)) e
+      where
+        by : (a b c : Bool) → cond a (Some SectionSize) (cond b (Some JournalLimits) (cond c (Some KeyWidth) None)) ≡ Some f
+            → cond a (Some SectionSize) (cond b (Some JournalLimits) (cond c (Some KeyWidth) (row_fault kind l (records_of s.journal.sections)))) ≡ Some f
+        by true b c e = e
+        by false true c e = e
+        by false false true e = e
+        by false false false e = let z : ◌≡◌ {A = ℕ} 0 1 = cc in absurd (omega arith)
 
-    pub fault_limits : between 1 l 64 ≡ true → archive_limits s.journal.limits ≡ false → load_fault kind s l ≡ Some JournalLimits
-    fault_limits a b = new_fault ∙ cond-false _ _ _ (ap not a) ∙ cond-true _ _ _ (ap not b)
+    pub record Passes : Type 0 where
+      pub some : 0 < l
+      pub few : l ≤ 64
+      pub limits : archive_limits s.journal.limits ≡ true
+      pub wide : s.journal.limits.width ≡ kind.width
+      pub rows : load_fault kind s l ≡ row_fault kind l (records_of s.journal.sections)
 
-    pub fault_width : between 1 l 64 ≡ true → archive_limits s.journal.limits ≡ true → eqb kind.width s.journal.limits.width ≡ false → load_fault kind s l ≡ Some KeyWidth
-    fault_width a b c = new_fault ∙ cond-false _ _ _ (ap not a) ∙ cond-false _ _ _ (ap not b) ∙ cond-true _ _ _ (ap not c)
+    pub passes : load_check l s.journal.limits kind.width ≡ None → Passes
+    passes e = by (cases_Bool (between 1 l 64)) (cases_Bool (archive_limits s.journal.limits)) (cases_Bool (eqb kind.width s.journal.limits.width))
+      where
+        no : (x : ArchiveFault) → ◌≡◌ {A = Option ArchiveFault} (Some x) None → ⊥
+        no x q = let z : ◌≡◌ {A = ℕ} 0 1 = cc in omega arith
 
-    pub fault_rows : (o : Option ArchiveFault) → between 1 l 64 ≡ true → archive_limits s.journal.limits ≡ true → eqb kind.width s.journal.limits.width ≡ true
-        → row_fault kind l (records_of s.journal.sections) ≡ o → load_fault kind s l ≡ o
-    fault_rows o a b c d = new_fault ∙ cond-false _ _ _ (ap not a) ∙ cond-false _ _ _ (ap not b) ∙ cond-false _ _ _ (ap not c) ∙ d
+        by : (between 1 l 64 ≡ true) ⊎ (between 1 l 64 ≡ false) → (archive_limits s.journal.limits ≡ true) ⊎ (archive_limits s.journal.limits ≡ false)
+            → (eqb kind.width s.journal.limits.width ≡ true) ⊎ (eqb kind.width s.journal.limits.width ≡ false) → Passes
+        by (inr a) b c = absurd (no SectionSize (sym (cond-true _ _ _ (ap not a)) ∙ e))
+        by (inl a) (inr b) c = absurd (no JournalLimits (sym (cond-false _ _ _ (ap not a) ∙ cond-true _ _ _ (ap not b)) ∙ e))
+        by (inl a) (inl b) (inr c) = absurd (no KeyWidth (sym (cond-false _ _ _ (ap not a) ∙ cond-false _ _ _ (ap not b) ∙ cond-true _ _ _ (ap not c)) ∙ e))
+        by (inl a) (inl b) (inl c) =
+            let p = and_parts _ _ a in
+            let q = leb-true 1 l p.0 in record {
+              some = omega (arith, q);
+              few = leb-true _ _ p.1;
+              limits = b;
+              wide = sym (eqb-true _ _ c);
+              rows = new_fault ∙ cond-false _ _ _ (ap not a) ∙ cond-false _ _ _ (ap not b) ∙ cond-false _ _ _ (ap not c);
+            }

@@ -4,7 +4,8 @@ use Rattle.journal.specs.declared.row.Entry.{Entry}
 use Rattle.journal.specs.declared.fault.JournalFault.{JournalFault}
 use Rattle.journal.specs.Meaning.{Meaning, Lawful, rows_of, first_from}
 use Rattle.journal.specs.Calls.{kept_from}
-use Rattle.journal.specs.Promises.{TellsFirst, TellsCount, ReadsEntry}
+use Rattle.journal.specs.Calls as calls
+use Rattle.journal.specs.Promises.{TellsFirst, TellsCount, ReadsEntry, ReadsValue}
 use Rattle.journal.proofs.Walks.{from_or_end, comes, stops}
 use Rattle.archive_layout.specs.Promises.{Reads}
 use Rattle.archive_layout.proofs.Bearers.{ReadRow, read_row}
@@ -51,3 +52,11 @@ module _ {O J : Type 0} {fits : O → J → Type 0} {meaning : J → Meaning} wh
     after = a.after;
     told = λ o f law e is. read_row (meaning j) s p key key' e law (sym is ∙ a.answer o f) (a.buffer o f);
   }
+
+  pub read_value : {j j' : J} {s p : ℕ} {value value' : List ℕ} {r : Result ℕ JournalFault} → ReadsValue fits meaning j j' s p value value' r
+      → Reads fits meaning j j' (λ m. (r ≡ calls.value_read m s p (length value)) × (value' ≡ calls.value_buffer m s p value))
+  read_value a = record { fit = a.fit; after = a.after; told = λ o f. (a.answer o f, a.buffer o f) }
+
+  pub read_refused : {j j' : J} {s p : ℕ} {key key' : List ℕ} {r : Result Entry JournalFault} → ReadsEntry fits meaning j j' s p key key' r
+      → Reads fits meaning j j' (λ m. r ≡ calls.entry_read m s p (length key))
+  read_refused a = record { fit = a.fit; after = a.after; told = a.answer }

@@ -3,3 +3,4 @@ pub mod Walks
 pub mod Keys
 pub mod Loads
 pub mod Promises
+pub mod Founds

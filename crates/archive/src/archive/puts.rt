@@ -1,10 +1,10 @@
-// Calls that change what is kept: put, put_multi and prune; and the counts of it.
+// Calls that change what is kept: put, put_multi and prune.
 
 ghost use Rattle.std.specs.Prelude.{◌≡◌, ℕ, true, false, Some};
 ghost use Rattle.journal.specs.Calls.{append_answer, appended};
 ghost use Rattle.rules.specs.State.{section_of};
-ghost use Rattle.rules.specs.Calls.{stored_by, with_journal, put_answer, put_after, floor_reaches, prune_answer, prune_after, counts_answer};
-ghost use Rattle.archive.specs.Archives.{Does, Tells, home_of};
+ghost use Rattle.rules.specs.Calls.{stored_by, with_journal, put_answer, put_after, floor_reaches, prune_answer, prune_after};
+ghost use Rattle.archive.specs.Archives.{Does, home_of};
 
 use crate::archive::Archive;
 use crate::loading::no_room;
@@ -13,7 +13,7 @@ use journal::Journal;
 use journal::row::Label;
 use keys::kind::Key;
 use keys::translator::Translator;
-use rules::answer::{Counts, Pruned, Put};
+use rules::answer::{Pruned, Put};
 use rules::fault::ArchiveFault;
 use rules::rounding::section_of;
 
@@ -99,21 +99,6 @@ impl<J: Journal, T: Translator, K: Key> Archive<J, T, K> {
         Ok(Pruned::Struck {
             numbers: struck.numbers,
             records: struck.records,
-        })
-    }
-
-    /// How many records are kept, how many numbers they bear, and the floor.
-    pub(crate) fn counts(&self) -> Result<Counts, ArchiveFault>
-        ensures { Tells J.fits J.meaning T.translated T.hashed K.W self.now counts_answer result }
-    {
-        if self.size.is_none() {
-            return Err(ArchiveFault::NotLoaded);
-        }
-        let kept = self.index.counts();
-        Ok(Counts {
-            records: kept.records,
-            numbers: kept.numbers,
-            floor: self.floor,
         })
     }
 }

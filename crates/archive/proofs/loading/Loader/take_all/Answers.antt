@@ -17,6 +17,7 @@ returns-in_err-rows g c =
           let comes = q.0.comes c.in-Some.start c.in-Some.is in
           load_fault_at law ready (p law ready) c.in-Some.start comes (q.1 law _ (load_ready law ready (p law ready) c.in-Some.start comes)) f c.in_err-rows.was));
       same = (c.take_section.ensures.same.0 ∙ inv.0, c.take_section.ensures.same.1 ∙ inv.1);
+      same_references = (c.take_section.ensures.same_references.0 ∙ inv.3, c.take_section.ensures.same_references.1 ∙ inv.4);
     }
 
 pub loop-turn-preserved : goal.loop-turn-preserved
@@ -30,10 +31,12 @@ loop-turn-preserved g c =
           let comes = q.0.comes c.in-Some.start c.in-Some.is in
           rw (next_from c.in-Some.start c.checked_add-from.result low c.checked_add-from.ensures)
           (load_more law ready (p law ready) c.in-Some.start comes (q.1 law _ (load_ready law ready (p law ready) c.in-Some.start comes)) c.in_ok-rows.rows _ c.in_ok-rows.was c.saturating_add-count.ensures)),
+      c.take_section.ensures.same_references.0 ∙ inv.3,
+      c.take_section.ensures.same_references.1 ∙ inv.4,
     )
 
 pub loop-turn-init : goal.loop-turn-init
-loop-turn-init g c = (refl, refl, read_none (λ m law ready. load_begins _ _ law ready))
+loop-turn-init g c = (refl, refl, read_none (λ m law ready. load_begins _ _ law ready), refl, refl)
 
 pub returns-in_default : goal.returns-in_default
 returns-in_default g c =
@@ -41,4 +44,5 @@ returns-in_default g c =
     record {
       reads = read_on inv.2 (read_start _ c.loop-turn.from c.start_from.result c.start_from.ensures) (λ m p q law ready. load_end law ready (p law ready) (q.stops law c.in_default.is));
       same = (inv.0, inv.1);
+      same_references = (inv.3, inv.4);
     }

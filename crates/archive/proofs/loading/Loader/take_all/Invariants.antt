@@ -17,3 +17,5 @@ invariant-loop-turn g l =
     (l.self.translator.now ≡ s.translator.now)
     × (l.self.size ≡ s.size)
     × Reads j.fits j.meaning l.initial.journal l.journal (λ m. Lawful m → IndexReady m (views s.index.now) s.size g.K.Key.W → LoadedTo kind k s.size m (views l.self.index.now) (from_or_end l.from) l.turn l.count)
+    × (l.self.key.ghost_name ≡ s.key.ghost_name)
+    × (l.self.index.ghost_name ≡ s.index.ghost_name)

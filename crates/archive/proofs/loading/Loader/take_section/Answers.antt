@@ -33,4 +33,6 @@ loop-position-preserved g c =
           let lt : c.loop-position.position < length (rows_of m.sections c.args.start) = omega arith in
           let p = pq.0 law ys ready in
           part_more kind ready x.apart p lt (pq.1 law ready.wide (part_row kind ready x.apart p lt) (part_there kind ready x.apart p lt) (part_room kind ready x.apart p lt)) c.in_ok-take_row.was),
+      c.take_row.ensures.same_references.0 ∙ inv.3,
+      c.take_row.ensures.same_references.1 ∙ inv.4,
     )

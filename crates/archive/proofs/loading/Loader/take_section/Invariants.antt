@@ -17,3 +17,5 @@ invariant-loop-position g l =
     × (l.self.size ≡ s.size)
     × Reads j.fits j.meaning l.initial.journal l.journal (λ m. Lawful m → (ys : List Section) → SectionReady k m (views s.index.now) ys s.size g.K.Key.W l.start
     → PartIn kind k s.size l.start (rows_of m.sections l.start) ys (views l.self.index.now) l.position)
+    × (l.self.key.ghost_name ≡ s.key.ghost_name)
+    × (l.self.index.ghost_name ≡ s.index.ghost_name)
