@@ -1,1 +1,2 @@
 mod Fitting
+pub mod Turning

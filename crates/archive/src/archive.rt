@@ -9,6 +9,7 @@ mod lists;
 mod loads;
 mod puts;
 mod questions;
+mod turns;
 
 use index::index::Index;
 use journal::Journal;
