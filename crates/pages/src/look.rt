@@ -1,11 +1,10 @@
 // What lies in pages, whatever their bytes: for whoever is to tell why a mounting refuses them.
 
-ghost use Rattle.std.specs.Prelude.{◌≡◌, ◌*◌, ◌+◌, ◌<◌, ◌≤◌, ◌&&◌, cond, true, false, length, nat_le, Some, None, MatchOption};
+ghost use Rattle.std.specs.Prelude.{◌≡◌, ◌<◌, true, false, length, MatchOption};
 ghost use Rattle.journal.specs.Making.{in_range};
 ghost use Rattle.format.specs.Decode as decode;
-ghost use Rattle.format.specs.Mount as mount;
 ghost use Rattle.format.specs.State.{offered};
-ghost use Rattle.pages.specs.Looks.{bytes_seen, has_page, page_seen, slot_seen, is_whole, row_seen_in, row_seen};
+ghost use Rattle.pages.specs.Looks.{bytes_seen, has_page, slot_seen, is_whole, row_seen_in, row_seen};
 
 use crate::layout::Layout;
 use crate::numbers::part;
