@@ -6,3 +6,4 @@ pub mod Growing
 pub mod Through
 pub mod Slots
 pub mod Noting
+pub mod Candidates

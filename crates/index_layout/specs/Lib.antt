@@ -1,3 +1,4 @@
 pub mod Links
 pub mod Views
 pub mod Held
+pub mod Candidates
