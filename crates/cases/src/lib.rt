@@ -9,5 +9,5 @@ pub fn worked_cases() -> usize
     ensures hold { AllHold worked }
     ensures count { result ≡ length worked }
 {
-    8
+    13
 }
