@@ -5,6 +5,7 @@ pub mod archive;
 mod listing;
 mod loading;
 mod numbers;
+pub mod run;
 mod search;
 mod spots;
 mod wanted;
