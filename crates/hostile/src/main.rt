@@ -59,7 +59,7 @@ fn sweep(
     for place in 0..pair.size() {
         for mask in masks {
             pair.turn(place, *mask);
-            let outcome = probe(heap, &pair, &known.sections)?;
+            let outcome = probe(heap, &pair, known.sections.as_slice())?;
             tally.add(outcome);
             flaws.add(outcome.flaw);
             pair.turn(place, *mask);
@@ -79,7 +79,7 @@ fn misplace_all(
     for from in 0..count {
         for to in 0..count {
             let pair = stretch.misplaced(heap, &known.pair, from, to)?;
-            let outcome = probe(heap, &pair, &known.sections)?;
+            let outcome = probe(heap, &pair, known.sections.as_slice())?;
             tally.add(outcome);
             flaws.add(outcome.flaw);
         }
@@ -98,7 +98,7 @@ fn try_random(
     let mut tally = Tally::NONE;
     for _ in 0..count {
         let pair = kind.make(heap, random, &known.pair)?;
-        let outcome = probe(heap, &pair, &known.sections)?;
+        let outcome = probe(heap, &pair, known.sections.as_slice())?;
         tally.add(outcome);
         flaws.add(outcome.flaw);
     }
@@ -148,7 +148,7 @@ fn report(rt: &HostRuntime, name: &str, tally: Tally) -> io::Result<()> {
 // The good pair as it is.
 fn unaltered(rt: &HostRuntime, known: &Known) -> io::Result<u64> {
     let mut tally = Tally::NONE;
-    tally.add(probe(rt.alloc(), &known.pair, &known.sections)?);
+    tally.add(probe(rt.alloc(), &known.pair, known.sections.as_slice())?);
     report(rt, "good pairs", tally)?;
     Ok(tally.wrong())
 }

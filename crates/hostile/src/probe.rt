@@ -84,10 +84,10 @@ fn cut_first<J: Journal>(journal: &mut J, sections: &mut Vec<Section>) -> bool {
 }
 
 // Whether these bytes are mounted again, and mean that.
-fn means(heap: Global, plain: Plain<'_>, sections: &Vec<Section>) -> Result<bool, AllocError> {
+fn means(heap: Global, plain: Plain<'_>, sections: &[Section]) -> Result<bool, AllocError> {
     let checked = Pages::check(plain.entries, plain.values, plain.limits).is_ok();
     let meaning = plain.meaning(heap)?;
-    Ok(checked && plain.refusal().is_none() && meaning == *sections)
+    Ok(checked && plain.refusal().is_none() && meaning.as_slice() == sections)
 }
 
 // Mounts a copy, appends, prunes and mounts again; whether each step left what it has to, by the calls and by the plain
@@ -111,16 +111,16 @@ fn lasts(heap: Global, pair: &Pair, seen: Vec<Section>) -> Result<bool, AllocErr
         entries: again.entries(),
         values: again.values(),
     };
-    let means = means(heap, left, &sections)?;
+    let means = means(heap, left, sections.as_slice())?;
     let same = before == sections && after == sections;
     Ok(cut && means && same && again.floor() == 0 && again.limits() == limits)
 }
 
-fn answer_of(seen: &Vec<Section>, known: &Vec<Section>) -> Answer {
-    if *seen == *known {
+fn answer_of(seen: &[Section], known: &[Section]) -> Answer {
+    if seen == known {
         return Answer::AsBefore;
     }
-    if is_sound(seen.as_slice()) {
+    if is_sound(seen) {
         Answer::Other
     } else {
         Answer::Damaged
@@ -131,7 +131,7 @@ fn is_unchanged(pages: &Pages<'_>, pair: &Pair) -> bool {
     pages.entries() == pair.entries.as_slice() && pages.values() == pair.values.as_slice()
 }
 
-fn probe_accepted(heap: Global, pair: &Pair, known: &Vec<Section>) -> Result<Outcome, AllocError> {
+fn probe_accepted(heap: Global, pair: &Pair, known: &[Section]) -> Result<Outcome, AllocError> {
     let expected = pair.plain().meaning(heap)?;
     let Pair {
         limits,
@@ -141,7 +141,7 @@ fn probe_accepted(heap: Global, pair: &Pair, known: &Vec<Section>) -> Result<Out
     let mut pages = Pages::mount(entries.as_mut_slice(), values.as_mut_slice(), limits);
     let seen = read_all(heap, &mut pages)?;
     let begins = pages.limits() == limits && pages.floor() == 0 && is_unchanged(&pages, pair);
-    let answer = answer_of(&seen, known);
+    let answer = answer_of(seen.as_slice(), known);
     let agrees = pair.plain().refusal().is_none() && seen == expected;
     let lasts = lasts(heap, pair, seen)?;
     Ok(Outcome {
@@ -171,7 +171,7 @@ fn probe_refused(pair: &Pair, fault: JournalFault) -> Result<Outcome, AllocError
 }
 
 /// What comes of a pair; `known` is the meaning of the pair that it was made of.
-pub fn probe(heap: Global, pair: &Pair, known: &Vec<Section>) -> Result<Outcome, AllocError> {
+pub fn probe(heap: Global, pair: &Pair, known: &[Section]) -> Result<Outcome, AllocError> {
     match Pages::check(pair.entries.as_slice(), pair.values.as_slice(), pair.limits) {
         Ok(()) => probe_accepted(heap, pair, known),
         Err(fault) => probe_refused(pair, fault),
