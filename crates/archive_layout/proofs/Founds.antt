@@ -1,5 +1,5 @@
 -- Records that were found, and what is read of them. Assumes nothing.
-use Rattle.std.proofs.Common.{◌≡◌, ℕ, ◌≤◌, Bool, true, false, ltb, List, [], ◌∷◌, length, is_ok, is_some, Some, None, Ok, Option, Result, sym, refl, ap, ◌∙◌, subst, inl, arith}
+use Rattle.std.proofs.Common.{◌≡◌, ℕ, ◌≤◌, Bool, false, ltb, List, [], ◌∷◌, length, is_ok, is_some, Some, None, Ok, Option, Result, sym, refl, ap, ◌∙◌, subst, inl, arith}
 use Rattle.std.specs.List.{AllByRecursion}
 use Rattle.std.proofs.lemmas.Bool.{cond-false, le-ltb, both_ways}
 use Rattle.journal.specs.declared.fault.JournalFault.{JournalFault}
@@ -9,11 +9,11 @@ use Rattle.journal.specs.Calls.{entry_answer, entry_read, value_read, value_buff
 use Rattle.rules.specs.declared.answer.Place.{Place}
 use Rattle.rules.specs.declared.answer.Found.{Found}
 use Rattle.rules.specs.declared.fault.ArchiveFault.{ArchiveFault}
-use Rattle.rules.specs.State.{State, Record, section_of, place_of, records_of, kept, those, some_in, bears_key, lies_at, by_number}
+use Rattle.rules.specs.State.{State, Record, section_of, place_of, records_of, kept, those, some_in, bears_key, lies_at}
 use Rattle.rules.specs.Calls.{Among, if_loaded, buffer_if_loaded, found_by, first_answer, first_buffer, GetsOne, GetsKeyBy, GetsKey}
 use Rattle.archive_layout.specs.declared.spot.Spot.{Spot}
 use Rattle.archive_layout.specs.Fit.{Homed}
-use Rattle.archive_layout.specs.Keys.{front, least, sought, spot_in}
+use Rattle.archive_layout.specs.Keys.{front, least, spot_in}
 use Rattle.archive_layout.specs.Founds.{answer_of, buffer_of, KeptIn}
 use Rattle.archive_layout.proofs.Bearers.{ReadRow}
 use Rattle.archive_layout.proofs.Chains.{none_there, other_there, lies_there}

@@ -1,10 +1,9 @@
 -- A load as a whole, by the rules. Assumes nothing.
-use Rattle.std.proofs.Common.{◌≡◌, ℕ, true, List, length, Some, None, Ok, Err, Option, Result, sym, refl, ap, ◌∙◌}
-use Rattle.journal.specs.Meaning.{Meaning}
+use Rattle.std.proofs.Common.{◌≡◌, ℕ, List, length, None, Ok, Err, Result, sym, refl, ◌∙◌}
 use Rattle.journal.specs.Calls.{or_fault}
 use Rattle.rules.specs.declared.fault.ArchiveFault.{ArchiveFault}
-use Rattle.rules.specs.State.{Kind, State, records_of, kept}
-use Rattle.rules.specs.Calls.{archive_limits, row_fault, load_fault, loaded}
+use Rattle.rules.specs.State.{Kind, State, records_of}
+use Rattle.rules.specs.Calls.{row_fault, loaded}
 use Rattle.index_layout.specs.Views.{View, free_view}
 use Rattle.index_layout.specs.Held.{found}
 use Rattle.archive_layout.specs.Fit.{Coding, Fit}

@@ -5,7 +5,7 @@ use Rattle.archive_layout.proofs.Founds.{least_kept, key_by}
 use Rattle.archive_layout.proofs.Listing.{least_all}
 use Rattle.archive_layout.proofs.Reading.{read_both}
 use Rattle.archive.specs.Archives.{state_of}
-use Rattle.archive.proofs.Fitting.{fit_of, does_read, known}
+use Rattle.archive.proofs.Fitting.{does_read, known}
 use Rattle.archive.proofs.archive.Archive.get_key.Goals as goal
 
 pub returns : goal.returns

@@ -1,4 +1,4 @@
-use Rattle.std.proofs.Common.{length, Ok, sym, ap, ◌∙◌, arith}
+use Rattle.std.proofs.Common.{length, Ok, ap, ◌∙◌, arith}
 use Rattle.std.proofs.lemmas.List.{length-take-le}
 use Rattle.rules.specs.State.{records_of, those, bears_number}
 use Rattle.archive_layout.proofs.Gets.{listing_short}

@@ -1,7 +1,6 @@
-use Rattle.std.proofs.Common.{ℕ, length, Ok, refl, sym, ap, ap₂, ◌∙◌, arith}
+use Rattle.std.proofs.Common.{ℕ, Ok, refl, ap₂, ◌∙◌, arith}
 use Rattle.std.proofs.lemmas.List.{length-take-le}
-use Rattle.rules.specs.declared.answer.Listed.{Listed}
-use Rattle.rules.specs.State.{kept, those, bears_key}
+use Rattle.rules.specs.State.{bears_key}
 use Rattle.rules.specs.Calls.{listed_key}
 use Rattle.index.specs.Slots.{views}
 use Rattle.archive_layout.proofs.Candidates.{counted_candidates}

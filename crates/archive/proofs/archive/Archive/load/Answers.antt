@@ -1,4 +1,4 @@
-use Rattle.std.proofs.Common.{ℕ, None, sym, refl, ap, ap₂, ◌∙◌, subst}
+use Rattle.std.proofs.Common.{ℕ, sym, refl, ap, ap₂, ◌∙◌, subst}
 use Rattle.journal.specs.declared.limits.Limits.{Limits}
 use Rattle.journal.specs.Meaning.{Lawful}
 use Rattle.journal.specs.Calls.{or_fault}
