@@ -17,6 +17,7 @@ use keys::kind::Key;
 use keys::translator::Translator;
 
 /// Records by number and by key, over any journal, translator and kind of key.
+#[derive(Drop)]
 pub struct Archive<J, T, K> {
     /// What is kept; the index only tells where.
     journal: J,
@@ -47,5 +48,21 @@ impl<J: Journal, T: Translator, K: Key> Archive<J, T, K> {
             floor: None,
             index: Index::new(),
         }
+    }
+    /// The journal below, to look at.
+    pub(crate) fn journal(&self) -> &J
+        ensures { result.now ≡ self.now.journal }
+    {
+        &self.journal
+    }
+}
+
+impl<J: Journal, T: Translator + Drop, K: Key + Drop> Archive<J, T, K> {
+    /// The journal below, given back; the index goes.
+    pub(crate) fn into_journal(self) -> J
+        ensures { result ≡ self.journal }
+    {
+        let Archive { journal, .. } = self;
+        journal
     }
 }

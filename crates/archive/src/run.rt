@@ -1,12 +1,11 @@
 // Whole runs: an archive is made over a journal and taken through turns, each answered where it lies.
 
-ghost use Rattle.std.specs.Prelude.{◌≡◌, List, length, map};
+ghost use Rattle.std.specs.Prelude.{◌≡◌, map};
 ghost use Rattle.std.specs.Vec.{vec_items};
-ghost use Rattle.rules.specs.Steps.{history_of};
-ghost use Rattle.rules.specs.Turns.{handed, answered};
 ghost use Rattle.rules.specs.Law.{Law};
 ghost use Rattle.archive.specs.Parts.{kind_of};
 ghost use Rattle.archive.specs.Archives.{state_of, Fits};
+ghost use Rattle.archive.specs.Runs.{history, RunsAlike};
 
 use crate::archive::Archive;
 use journal::Journal;
@@ -21,7 +20,7 @@ pub fn run<J: Journal, T: Translator, K: Key>(
     translator: T,
     turns: &mut Vec<Turn<K>>,
 ) -> Archive<J, T, K>
-    ensures law { (o : J.Journal.past) → J.Journal.fits o journal → Law (kind_of T.Translator.translated K.Key.W K.Key.flaw translator) (J.Journal.meaning journal) (history_of (map (handed K.Key.bytes) (vec_items turns.old)) (map answered (vec_items turns.new))) (state_of J.Journal.meaning result) }
+    ensures law { (o : J.Journal.past) → J.Journal.fits o journal → Law (kind_of T.Translator.translated K.Key.W K.Key.flaw translator) (J.Journal.meaning journal) (history K.Key.bytes (vec_items turns.old) (vec_items turns.new)) (state_of J.Journal.meaning result) }
     ensures fit { (o : J.Journal.past) → J.Journal.fits o journal → Fits J.Journal.fits J.Journal.meaning T.Translator.translated T.Translator.hashed K.Key.W o result }
     ensures turns { map (λ u. u.call) (vec_items turns.new) ≡ map (λ u. u.call) (vec_items turns.old) }
 {
@@ -30,4 +29,25 @@ pub fn run<J: Journal, T: Translator, K: Key>(
         archive.take(turn);
     }
     archive
+}
+
+/// Two runs, over journals of any two types. Where these mean the same, the second run answers as the first: also where it
+/// makes two neighbouring puts into different sections the other way round, both of which the first accepted.
+pub fn run_both<J: Journal, I: Journal, T: Translator + Copy, K: Key>(
+    journal: J,
+    other: I,
+    translator: T,
+    turns: &mut Vec<Turn<K>>,
+    others: &mut Vec<Turn<K>>,
+) -> (Archive<J, T, K>, Archive<I, T, K>)
+    ensures alike { (o : J.Journal.past) → J.Journal.fits o journal → (p : I.Journal.past) → I.Journal.fits p other → I.Journal.meaning other ≡ J.Journal.meaning journal → RunsAlike (J.Journal.meaning journal) (history K.Key.bytes (vec_items turns.old) (vec_items turns.new)) (history K.Key.bytes (vec_items others.old) (vec_items others.new)) }
+    ensures law { (o : J.Journal.past) → J.Journal.fits o journal → Law (kind_of T.Translator.translated K.Key.W K.Key.flaw translator) (J.Journal.meaning journal) (history K.Key.bytes (vec_items turns.old) (vec_items turns.new)) (state_of J.Journal.meaning result.0) }
+    ensures law_of_other { (p : I.Journal.past) → I.Journal.fits p other → Law (kind_of T.Translator.translated K.Key.W K.Key.flaw translator) (I.Journal.meaning other) (history K.Key.bytes (vec_items others.old) (vec_items others.new)) (state_of I.Journal.meaning result.1) }
+    ensures fit { (o : J.Journal.past) → J.Journal.fits o journal → Fits J.Journal.fits J.Journal.meaning T.Translator.translated T.Translator.hashed K.Key.W o result.0 }
+    ensures fit_of_other { (p : I.Journal.past) → I.Journal.fits p other → Fits I.Journal.fits I.Journal.meaning T.Translator.translated T.Translator.hashed K.Key.W p result.1 }
+{
+    (
+        run(journal, translator, turns),
+        run(other, translator, others),
+    )
 }
