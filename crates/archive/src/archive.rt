@@ -33,7 +33,7 @@ pub struct Archive<J, T, K> {
 
 impl<J: Journal, T: Translator, K: Key> Archive<J, T, K> {
     /// An archive that is not loaded, over a journal of any meaning.
-    pub(crate) fn new(journal: J, translator: T) -> Archive<J, T, K>
+    pub fn new(journal: J, translator: T) -> Archive<J, T, K>
         ensures state { state_of J.meaning result ≡ new (J.meaning journal) }
         ensures parts { (result.journal ≡ journal) × (result.translator ≡ translator) }
         ensures fit { (o : J.past) → J.fits o journal → Fits J.fits J.meaning T.translated T.hashed K.W o result }
@@ -50,7 +50,7 @@ impl<J: Journal, T: Translator, K: Key> Archive<J, T, K> {
         }
     }
     /// The journal below, to look at.
-    pub(crate) fn journal(&self) -> &J
+    pub fn journal(&self) -> &J
         ensures { result.now ≡ self.now.journal }
     {
         &self.journal
@@ -59,7 +59,7 @@ impl<J: Journal, T: Translator, K: Key> Archive<J, T, K> {
 
 impl<J: Journal, T: Translator + Drop, K: Key + Drop> Archive<J, T, K> {
     /// The journal below, given back; the index goes.
-    pub(crate) fn into_journal(self) -> J
+    pub fn into_journal(self) -> J
         ensures { result ≡ self.journal }
     {
         let Archive { journal, .. } = self;

@@ -19,7 +19,7 @@ use rules::fault::ArchiveFault;
 
 impl<J: Journal, T: Translator, K: Key> Archive<J, T, K> {
     /// The earliest record that bears a number, its value to the front of `value`.
-    pub(crate) fn get_index(
+    pub fn get_index(
         &mut self,
         number: u64,
         value: &mut [u8],
@@ -34,7 +34,7 @@ impl<J: Journal, T: Translator, K: Key> Archive<J, T, K> {
     }
 
     /// Some record that bears a key: the least by number and then position.
-    pub(crate) fn get_key(
+    pub fn get_key(
         &mut self,
         key: &K,
         value: &mut [u8],
@@ -54,7 +54,7 @@ impl<J: Journal, T: Translator, K: Key> Archive<J, T, K> {
     }
 
     /// The record at a place.
-    pub(crate) fn get_at(
+    pub fn get_at(
         &mut self,
         place: Place,
         value: &mut [u8],

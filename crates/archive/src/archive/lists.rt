@@ -18,7 +18,7 @@ use rules::fault::ArchiveFault;
 
 impl<J: Journal, T: Translator, K: Key> Archive<J, T, K> {
     /// The records that bear a number, by position; the answer is how many there are.
-    pub(crate) fn list_index(&self, number: u64, places: &mut [Place]) -> Result<u64, ArchiveFault>
+    pub fn list_index(&self, number: u64, places: &mut [Place]) -> Result<u64, ArchiveFault>
         ensures { Tells J.fits J.meaning T.translated T.hashed K.W self.now (λ s. With (list_number_answer s number (length places.old)) (list_places s (bears_number number) places.old)) (result, places.new) }
     {
         let Some(size) = self.size else {
@@ -34,7 +34,7 @@ impl<J: Journal, T: Translator, K: Key> Archive<J, T, K> {
     }
 
     /// The records that bear a key, by number and position; and how many share its translated key.
-    pub(crate) fn list_key(&mut self, key: &K, places: &mut [Place]) -> Result<Listed, ArchiveFault>
+    pub fn list_key(&mut self, key: &K, places: &mut [Place]) -> Result<Listed, ArchiveFault>
         ensures { Does J.fits J.meaning T.translated T.hashed K.W self.old self.new (λ s. With (list_key_answer (kind_of T.translated K.W K.flaw self.old.translator) s (K.bytes key.now) (length places.old)) (list_places s (bears_key (K.bytes key.now)) places.old)) (λ s. s) (result, places.new) }
     {
         let Some(size) = self.size else {

@@ -43,7 +43,7 @@ fn check_load(size: u64, limits: &Limits, width: u64) -> Result<(), ArchiveFault
 impl<J: Journal, T: Translator, K: Key> Archive<J, T, K> {
     /// The rows of the journal become the kept records, `size` numbers to a section; the answer is how many they are. A
     /// refused load leaves nothing behind.
-    pub(crate) fn load(&mut self, size: u64) -> Result<u64, ArchiveFault>
+    pub fn load(&mut self, size: u64) -> Result<u64, ArchiveFault>
         ensures { Does J.fits J.meaning T.translated T.hashed K.W self.old self.new (λ s x. x ≡ load_answer (kind_of T.translated K.W K.flaw self.old.translator) s size) (λ s. load_after (kind_of T.translated K.W K.flaw self.old.translator) s size) result }
     {
         if self.size.is_some() {

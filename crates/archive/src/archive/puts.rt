@@ -54,7 +54,7 @@ impl<J: Journal, T: Translator, K: Key> Archive<J, T, K> {
     }
 
     /// Stores a record, unless its number is below the floor or a kept record has it.
-    pub(crate) fn put(&mut self, label: Label, key: &K, value: &[u8]) -> Result<Put, ArchiveFault>
+    pub fn put(&mut self, label: Label, key: &K, value: &[u8]) -> Result<Put, ArchiveFault>
         ensures { Does J.fits J.meaning T.translated T.hashed K.W self.old self.new (λ s x. x ≡ put_answer s false label (K.bytes key.now) value.now) (λ s. put_after s false label (K.bytes key.now) value.now) result }
     {
         let Some(start) = self.home_of(label.number)? else {
@@ -68,7 +68,7 @@ impl<J: Journal, T: Translator, K: Key> Archive<J, T, K> {
     }
 
     /// Stores a record, unless its number is below the floor; others may have the number too.
-    pub(crate) fn put_multi(
+    pub fn put_multi(
         &mut self,
         label: Label,
         key: &K,
@@ -83,7 +83,7 @@ impl<J: Journal, T: Translator, K: Key> Archive<J, T, K> {
     }
 
     /// Strikes the sections below a minimum, which is rounded down to a section's start.
-    pub(crate) fn prune(&mut self, min: u64) -> Result<Pruned, ArchiveFault>
+    pub fn prune(&mut self, min: u64) -> Result<Pruned, ArchiveFault>
         ensures { Does J.fits J.meaning T.translated T.hashed K.W self.old self.new (λ s x. x ≡ prune_answer s min) (λ s. prune_after s min) result }
     {
         let Some(size) = self.size else {

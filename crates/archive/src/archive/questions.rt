@@ -17,7 +17,7 @@ use rules::fault::ArchiveFault;
 
 impl<J: Journal, T: Translator, K: Key> Archive<J, T, K> {
     /// Whether a kept record bears a number.
-    pub(crate) fn has_index(&self, number: u64) -> Result<bool, ArchiveFault>
+    pub fn has_index(&self, number: u64) -> Result<bool, ArchiveFault>
         ensures { Tells J.fits J.meaning T.translated T.hashed K.W self.now (λ s x. x ≡ has_answer s (bears_number number)) result }
     {
         let Some(size) = self.size else {
@@ -27,7 +27,7 @@ impl<J: Journal, T: Translator, K: Key> Archive<J, T, K> {
     }
 
     /// Whether a kept record bears a key.
-    pub(crate) fn has_key(&mut self, key: &K) -> Result<bool, ArchiveFault>
+    pub fn has_key(&mut self, key: &K) -> Result<bool, ArchiveFault>
         ensures { Does J.fits J.meaning T.translated T.hashed K.W self.old self.new (λ s x. x ≡ has_answer s (bears_key (K.bytes key.now))) (λ s. s) result }
     {
         let Some(size) = self.size else {
@@ -42,7 +42,7 @@ impl<J: Journal, T: Translator, K: Key> Archive<J, T, K> {
     }
 
     /// Whether one kept record bears a number and a key.
-    pub(crate) fn has_at(&mut self, number: u64, key: &K) -> Result<bool, ArchiveFault>
+    pub fn has_at(&mut self, number: u64, key: &K) -> Result<bool, ArchiveFault>
         ensures { Does J.fits J.meaning T.translated T.hashed K.W self.old self.new (λ s x. x ≡ has_answer s (bears_both number (K.bytes key.now))) (λ s. s) result }
     {
         let Some(size) = self.size else {
@@ -53,7 +53,7 @@ impl<J: Journal, T: Translator, K: Key> Archive<J, T, K> {
     }
 
     /// How many records are kept, how many numbers they bear, and the floor.
-    pub(crate) fn counts(&self) -> Result<Counts, ArchiveFault>
+    pub fn counts(&self) -> Result<Counts, ArchiveFault>
         ensures { Tells J.fits J.meaning T.translated T.hashed K.W self.now (λ s x. x ≡ counts_answer s) result }
     {
         if self.size.is_none() {

@@ -45,7 +45,7 @@ impl<J: Journal, T: Translator, K: Key> Archive<J, T, K> {
     }
 
     /// Makes the call of a turn, over its buffers, and notes the answer there.
-    pub(crate) fn take(&mut self, turn: &mut Turn<K>)
+    pub fn take(&mut self, turn: &mut Turn<K>)
         ensures answers { Does J.fits J.meaning T.translated T.hashed K.W self.old self.new (λ s. Answers (kind_of T.translated K.W K.flaw self.old.translator) s (handed K.bytes turn.old)) (λ s. next (kind_of T.translated K.W K.flaw self.old.translator) s (handed K.bytes turn.old)) (answered turn.new) }
         ensures call { turn.new.call ≡ turn.old.call }
     {
