@@ -1,8 +1,10 @@
 // The answers to questions about keys, which no journal is needed for.
 
 use crate::answer::Answer;
-use crate::command::{Misread, Question};
+use crate::command::Question;
+use crate::misread::Misread;
 use crate::stop::Stop;
+use crate::turns::key_of;
 use keys::box_number::BoxNumber;
 use keys::digest::Digest;
 use keys::fnv::fnv_1a_32;
@@ -24,13 +26,6 @@ pub fn from_hex(heap: Global, text: &str) -> Result<Vec<u8>, Stop> {
         bytes.push(high * 16 + low)?;
     }
     Ok(bytes)
-}
-
-// The key of any kind that gives these bytes.
-fn key_of<K: Key + Drop>(bytes: &[u8]) -> Result<K, Stop> {
-    let mut key = K::first();
-    key.read(bytes)?;
-    Ok(key)
 }
 
 fn read_box(text: &str) -> Result<Answer<'_>, Stop> {

@@ -1,9 +1,14 @@
 // A line of the script as a command: words parted by one space, and for some commands a text to the line's end.
 
+use crate::misread::Misread;
+use crate::rest::{Rest, cut};
+use crate::sailing::{ArchiveCall, archive_call};
 use crate::store::Medium;
 use journal::limits::Limits;
+use keys::box_number::BoxNumber;
+use keys::digest::Digest;
+use keys::kind::Key;
 use keys::translator::{AnyTranslator, Fnv, Leading};
-use std::fmt;
 use std::path::Path;
 
 #[derive(Clone, Copy, Debug, PartialEq, Eq)]
@@ -15,7 +20,31 @@ pub enum Command<'a> {
     Open { file: &'a str, limits: Limits },
     /// Lays a file open.
     Dump { file: &'a str, limits: Limits },
+    /// Begins a voyage.
+    Voyage(Voyage),
     Call(JournalCall<'a>),
+    Sail(ArchiveCall<'a>),
+    /// Saves what was begun last.
+    Save(&'a str),
+    /// Begins the voyage anew over a file.
+    Reopen(&'a str),
+    Exchange,
+}
+
+/// A kind of key.
+#[derive(Clone, Copy, Debug, PartialEq, Eq)]
+pub enum Kind {
+    Box,
+    Digest,
+}
+
+/// What a voyage begins with: the width is that of its kind of key.
+#[derive(Clone, Copy, Debug, PartialEq, Eq)]
+pub struct Voyage {
+    pub kind: Kind,
+    pub translator: AnyTranslator,
+    pub on: Medium,
+    pub limits: Limits,
 }
 
 /// What is asked of the kinds of key, and of no journal.
@@ -40,7 +69,6 @@ pub enum JournalCall<'a> {
     ReadValue(Row),
     Cut(u64),
     Sections,
-    Save(&'a str),
 }
 
 /// A row to read, and the size of the buffer to read it into, where the line names one.
@@ -49,127 +77,6 @@ pub struct Row {
     pub start: u64,
     pub position: u64,
     pub room: Option<u64>,
-}
-
-/// What keeps a line from being understood.
-#[derive(Clone, Copy, Debug, PartialEq, Eq)]
-pub enum Misread {
-    NotUtf8,
-    UnknownCommand,
-    MissingWord,
-    SurplusWord,
-    NotANumber,
-    UnknownTranslator,
-    UnknownJournal,
-    NotHexadecimal,
-    OddDigits,
-    NoJournal,
-    NoPages,
-    NotRelative,
-    NotRead,
-    NotWritten,
-}
-
-impl fmt::Display for Misread {
-    fn fmt<W: fmt::Write>(&self, f: &mut fmt::Formatter<W>) -> fmt::Result {
-        f.write_str(match self {
-            Misread::NotUtf8 => "not UTF-8",
-            Misread::UnknownCommand => "unknown command",
-            Misread::MissingWord => "a word is missing",
-            Misread::SurplusWord => "a word too many",
-            Misread::NotANumber => "not a number below 2^64",
-            Misread::UnknownTranslator => "unknown translator",
-            Misread::UnknownJournal => "unknown kind of journal",
-            Misread::NotHexadecimal => "not hexadecimal",
-            Misread::OddDigits => "an odd count of hexadecimal digits",
-            Misread::NoJournal => "no journal is begun",
-            Misread::NoPages => "the journal does not lie on pages",
-            Misread::NotRelative => "not a relative path",
-            Misread::NotRead => "the file cannot be read",
-            Misread::NotWritten => "the file cannot be written",
-        })
-    }
-}
-
-// What is left of a line: words behind one space each.
-#[derive(Clone, Copy)]
-struct Rest<'a>(Option<&'a str>);
-
-impl<'a> Rest<'a> {
-    // The text to the line's end; none is the empty one.
-    fn text(self) -> &'a str {
-        self.0.unwrap_or("")
-    }
-
-    // Nothing may follow.
-    fn end(self) -> Result<(), Misread> {
-        match self.0 {
-            Some(_) => Err(Misread::SurplusWord),
-            None => Ok(()),
-        }
-    }
-
-    // The next word, where an empty one is a missing one.
-    fn word(&mut self) -> Result<&'a str, Misread> {
-        let (word, behind) = cut(self.0.ok_or(Misread::MissingWord)?);
-        if word.is_empty() {
-            return Err(Misread::MissingWord);
-        }
-        self.0 = behind;
-        Ok(word)
-    }
-
-    fn number(&mut self) -> Result<u64, Misread> {
-        number(self.word()?)
-    }
-
-    fn last_word(mut self) -> Result<&'a str, Misread> {
-        let word = self.word()?;
-        self.end()?;
-        Ok(word)
-    }
-
-    fn last_number(self) -> Result<u64, Misread> {
-        number(self.last_word()?)
-    }
-
-    // The four limits, to the end of the line.
-    fn limits(mut self) -> Result<Limits, Misread> {
-        let width = self.number()?;
-        let slots = self.number()?;
-        let rows = self.number()?;
-        let bytes = self.last_number()?;
-        Ok(Limits {
-            slots,
-            rows,
-            bytes,
-            width,
-        })
-    }
-
-    // The last number, where anything follows.
-    fn number_or_none(self) -> Result<Option<u64>, Misread> {
-        match self.0 {
-            Some(_) => Ok(Some(self.last_number()?)),
-            None => Ok(None),
-        }
-    }
-}
-
-// The first word, and what follows the one space behind it, if there is a space.
-fn cut(line: &str) -> (&str, Option<&str>) {
-    match line.split_once(' ') {
-        Some((word, rest)) => (word, Some(rest)),
-        None => (line, None),
-    }
-}
-
-// Decimal digits and nothing else, not even a sign, which `parse` would take.
-fn number(word: &str) -> Result<u64, Misread> {
-    if !word.bytes().all(|b| b.is_ascii_digit()) {
-        return Err(Misread::NotANumber);
-    }
-    word.parse().map_err(|_| Misread::NotANumber)
 }
 
 // No `FromStr`: the names are this script's, and the type is a library's.
@@ -203,6 +110,36 @@ fn begin_journal<'a>(mut rest: Rest<'a>) -> Result<Command<'a>, Misread> {
         on,
         limits: rest.limits()?,
     })
+}
+
+fn begin_voyage<'a>(mut rest: Rest<'a>) -> Result<Command<'a>, Misread> {
+    let kind = match rest.word()? {
+        "box" => Kind::Box,
+        "digest" => Kind::Digest,
+        _ => return Err(Misread::UnknownKind),
+    };
+    let translator = translator(rest.word()?)?;
+    let on = match rest.word()? {
+        "memory" => Medium::Memory,
+        "pages" => Medium::Pages,
+        _ => return Err(Misread::UnknownJournal),
+    };
+    let width = match kind {
+        Kind::Box => BoxNumber::W,
+        Kind::Digest => Digest::W,
+    };
+    let limits = Limits {
+        slots: rest.number()?,
+        rows: rest.number()?,
+        bytes: rest.last_number()?,
+        width: width as u64,
+    };
+    Ok(Command::Voyage(Voyage {
+        kind,
+        translator,
+        on,
+        limits,
+    }))
 }
 
 fn relative(path: &str) -> Result<&str, Misread> {
@@ -257,7 +194,13 @@ impl<'a> TryFrom<&'a str> for Command<'a> {
                 let (file, limits) = file_and_limits(rest)?;
                 Ok(Command::Dump { file, limits })
             }
-            "save" => Ok(Command::Call(JournalCall::Save(relative(rest.last_word()?)?))),
+            "voyage" => begin_voyage(rest),
+            "save" => Ok(Command::Save(relative(rest.last_word()?)?)),
+            "open" => Ok(Command::Reopen(relative(rest.last_word()?)?)),
+            "exchange" => {
+                rest.end()?;
+                Ok(Command::Exchange)
+            }
             "append" => append(rest),
             "read_entry" => Ok(Command::Call(JournalCall::ReadEntry(row_to_read(rest)?))),
             "read_value" => Ok(Command::Call(JournalCall::ReadValue(row_to_read(rest)?))),
@@ -266,7 +209,7 @@ impl<'a> TryFrom<&'a str> for Command<'a> {
                 rest.end()?;
                 Ok(Command::Call(JournalCall::Sections))
             }
-            _ => Err(Misread::UnknownCommand),
+            _ => Ok(Command::Sail(archive_call(name, rest)?)),
         }
     }
 }

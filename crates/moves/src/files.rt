@@ -1,7 +1,7 @@
 // Files of byte pages: the entries, and behind them the values.
 
-use crate::command::Misread;
 use crate::dump::Dump;
+use crate::misread::Misread;
 use crate::stop::Stop;
 use crate::store::{PageBytes, Store};
 use journal::limits::Limits;

@@ -1,11 +1,12 @@
 // Why a line is not answered by its command's own answer.
 
-use crate::command::Misread;
+use crate::misread::Misread;
 use journal::fault::JournalFault;
 use keys::fault::KeyFault;
 use rules::fault::ArchiveFault;
 use std::alloc::{AllocError, AllocFailed};
 
+#[derive(Drop)]
 pub enum Stop {
     Misread(Misread),
     Refused(ArchiveFault),
@@ -27,6 +28,12 @@ impl From<KeyFault> for Stop {
 impl From<JournalFault> for Stop {
     fn from(fault: JournalFault) -> Stop {
         Stop::Refused(fault.into())
+    }
+}
+
+impl From<ArchiveFault> for Stop {
+    fn from(fault: ArchiveFault) -> Stop {
+        Stop::Refused(fault)
     }
 }
 

@@ -52,7 +52,8 @@ fn rows_for(limits: &Limits) -> (usize, usize) {
 }
 
 impl Rows {
-    fn new(heap: Global, limits: Limits) -> Result<Rows, Stop> {
+    /// Memory for rows, none of them kept; refused where no journal may have the limits.
+    pub fn new(heap: Global, limits: Limits) -> Result<Rows, Stop> {
         let (records, bytes) = rows_for(&limits);
         let records = vec![in heap; RowRecord::BLANK; records]?;
         let bytes = vec![in heap; 0; bytes]?;
@@ -81,7 +82,8 @@ fn values_size(limits: Limits) -> usize {
 }
 
 impl PageBytes {
-    fn new(heap: Global, limits: Limits) -> Result<PageBytes, Stop> {
+    /// Pages that are all free; refused where no journal may have the limits.
+    pub fn new(heap: Global, limits: Limits) -> Result<PageBytes, Stop> {
         let pages = PageBytes {
             entries: vec![in heap; 0; entries_size(limits)]?,
             values: vec![in heap; 0; values_size(limits)]?,
@@ -98,6 +100,14 @@ impl PageBytes {
             entries: file[..at].to_vec(heap)?,
             values: file[at..].to_vec(heap)?,
             limits,
+        })
+    }
+
+    pub fn copy(&self, heap: Global) -> Result<PageBytes, Stop> {
+        Ok(PageBytes {
+            entries: self.entries.as_slice().to_vec(heap)?,
+            values: self.values.as_slice().to_vec(heap)?,
+            limits: self.limits,
         })
     }
 
