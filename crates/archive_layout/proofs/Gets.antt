@@ -1,5 +1,5 @@
 -- Gets, questions and listings, by the rules. Assumes nothing.
-use Rattle.std.proofs.Common.{◌≡◌, ℕ, suc, ◌+◌, ◌-◌, ◌<◌, ◌≤◌, Bool, true, false, ltb, List, [], ◌∷◌, ◌++◌, length, drop, Some, None, Ok, Err, Option, Result, sym, refl, ap, ◌∙◌, subst, inl, inr, arith}
+use Rattle.std.proofs.Common.{◌≡◌, ℕ, suc, ◌+◌, ◌-◌, ◌<◌, ◌≤◌, Bool, true, false, ltb, List, [], ◌∷◌, ◌++◌, length, drop, Some, Ok, Err, Option, Result, sym, refl, ap, ◌∙◌, subst, inl, inr, arith}
 use Rattle.std.specs.List.{slice_get}
 use Rattle.std.proofs.lemmas.Bool.{cond-true, cond-false, lt-ltb, le-ltb, eq-eqb}
 use Rattle.journal.specs.declared.fault.JournalFault.{JournalFault}
@@ -8,9 +8,9 @@ use Rattle.journal.specs.Calls.{value_answer, value_fill, value_read, value_buff
 use Rattle.rules.specs.declared.answer.Found.{Found}
 use Rattle.rules.specs.declared.answer.Place.{Place}
 use Rattle.rules.specs.declared.fault.ArchiveFault.{ArchiveFault}
-use Rattle.rules.specs.declared.fault.ArchiveFault.TheVariants.{NotLoaded, ShortListing}
-use Rattle.rules.specs.State.{State, Record, place_of, filed, records_of, kept, those, some_in, bears_key, by_number, places_of}
-use Rattle.rules.specs.Calls.{Among, if_loaded, buffer_if_loaded, found_by, found_answer, found_buffer, first_answer, first_buffer, GetsOne, GetsKeyBy, GetsKey, has_answer, fitting, listing_places, list_places}
+use Rattle.rules.specs.declared.fault.ArchiveFault.TheVariants.{ShortListing}
+use Rattle.rules.specs.State.{State, Record, place_of, filed, records_of, kept, those, some_in, by_number, places_of}
+use Rattle.rules.specs.Calls.{Among, if_loaded, buffer_if_loaded, found_by, found_answer, found_buffer, first_answer, first_buffer, has_answer, fitting, listing_places, list_places}
 use Rattle.law.proofs.Lists.{among_those}
 use Rattle.law.proofs.Arrivals.{starts, starts_records}
 
@@ -48,50 +48,7 @@ module _ (s : State) (t : Record → Bool) where
     pub answer : r ≡ if_loaded s.size (λ _. first_answer (those t (kept s)) (length b))
     pub buffer : b' ≡ buffer_if_loaded s.size (first_buffer (those t (kept s)) b) b
 
-  pub first_unloaded : (b : List ℕ) → s.size ≡ None → FirstIs b b (Err NotLoaded)
-  first_unloaded b e = record {
-    answer = ap (λ o. if_loaded o (λ _. first_answer (those t (kept s)) (length b))) (sym e);
-    buffer = ap (λ o. buffer_if_loaded o (first_buffer (those t (kept s)) b) b) (sym e);
-  }
-
-  module _ (l : ℕ) (e : s.size ≡ Some l) where
-    by_list : (b b' : List ℕ) (r : Result (Option Found) ArchiveFault) (rs : List Record) → those t (kept s) ≡ rs → r ≡ first_answer rs (length b) → b' ≡ first_buffer rs b → FirstIs b b' r
-    by_list b b' r rs is a f = record {
-      answer = a ∙ ap (λ ys. first_answer ys (length b)) (sym is) ∙ ap (λ o. if_loaded o (λ _. first_answer (those t (kept s)) (length b))) (sym e);
-      buffer = f ∙ ap (λ ys. first_buffer ys b) (sym is) ∙ ap (λ o. buffer_if_loaded o (first_buffer (those t (kept s)) b) b) (sym e);
-    }
-
-    pub first_absent : (b : List ℕ) → those t (kept s) ≡ [] → FirstIs b b (Ok None)
-    first_absent b is = by_list b b (Ok None) [] is refl refl
-
-    pub first_found : (b b' : List ℕ) (y : Record) (ys : List Record) (r : Result ℕ JournalFault) → those t (kept s) ≡ y ∷ ys → row_at s.journal y.start y.position ≡ Some y.row
-        → r ≡ value_read s.journal y.start y.position (length b) → b' ≡ value_buffer s.journal y.start y.position b → FirstIs b b' (found_by (place_of y) r)
-    first_found b b' y ys r is there er eb =
-        by_list b b' (found_by (place_of y) r) (y ∷ ys) is (reads_answer s.journal y there (length b) r er) (reads_buffer s.journal y there b b' eb)
-
--- A get by key: some bearer.
-pub key_unloaded : (s : State) (key b : List ℕ) → s.size ≡ None → GetsKey s key b (Err NotLoaded) b
-key_unloaded s key b e = subst (λ o. GetsKeyBy o (those (bears_key key) (kept s)) b (Err NotLoaded) b) (sym e) (refl, refl)
-
-pub key_absent : (s : State) (l : ℕ) (key b : List ℕ) → s.size ≡ Some l → those (bears_key key) (kept s) ≡ [] → GetsKey s key b (Ok None) b
-key_absent s l key b e is =
-    subst (λ o. GetsKeyBy o (those (bears_key key) (kept s)) b (Ok None) b) (sym e) (subst (λ rs. GetsOne rs b (Ok None) b) (sym is) (refl, refl))
-
-gets_some : (rs : List Record) (y : Record) (b b' : List ℕ) (r : Result (Option Found) ArchiveFault) → Among y rs → r ≡ found_answer y (length b) → b' ≡ found_buffer y b → GetsOne rs b r b'
-gets_some [] y b b' r a er eb = absurd a
-gets_some (x ∷ rs) y b b' r a er eb = (y, a, er, eb)
-
-pub key_found : (s : State) (l : ℕ) (key b b' : List ℕ) (y : Record) (r : Result ℕ JournalFault) → s.size ≡ Some l → Among y (those (bears_key key) (kept s))
-    → row_at s.journal y.start y.position ≡ Some y.row → r ≡ value_read s.journal y.start y.position (length b) → b' ≡ value_buffer s.journal y.start y.position b
-    → GetsKey s key b (found_by (place_of y) r) b'
-key_found s l key b b' y r e a there er eb =
-    subst (λ o. GetsKeyBy o (those (bears_key key) (kept s)) b (found_by (place_of y) r) b') (sym e)
-    (gets_some (those (bears_key key) (kept s)) y b b' (found_by (place_of y) r) a (reads_answer s.journal y there (length b) r er) (reads_buffer s.journal y there b b' eb))
-
 -- Questions.
-pub has_unloaded : (s : State) (t : Record → Bool) → s.size ≡ None → Err NotLoaded ≡ has_answer s t
-has_unloaded s t e = ap (λ o. if_loaded o (λ _. Ok (some_in (those t (kept s))))) (sym e)
-
 pub has_by : (s : State) (t : Record → Bool) (l : ℕ) (b : Bool) → s.size ≡ Some l → b ≡ some_in (those t (kept s)) → Ok b ≡ has_answer s t
 has_by s t l b e is = ap (λ x. Ok x) is ∙ ap (λ o. if_loaded o (λ _. Ok (some_in (those t (kept s))))) (sym e)
 
@@ -100,12 +57,6 @@ module _ {X : Type 0} (s : State) (t : Record → Bool) (x : X) where
   pub record ListingIs (ps ps' : List Place) (r : Result X ArchiveFault) : Type 0 where
     pub answer : r ≡ if_loaded s.size (λ _. fitting (length (those t (kept s))) (length ps) x)
     pub places : ps' ≡ list_places s t ps
-
-  pub listing_unloaded : (ps : List Place) → s.size ≡ None → ListingIs ps ps (Err NotLoaded)
-  listing_unloaded ps e = record {
-    answer = ap (λ o. if_loaded o (λ _. fitting (length (those t (kept s))) (length ps) x)) (sym e);
-    places = ap (λ o. buffer_if_loaded o (listing_places (those t (kept s)) ps) ps) (sym e);
-  }
 
   module _ (l : ℕ) (e : s.size ≡ Some l) where
     by_size : (ps ps' : List Place) (r : Result X ArchiveFault) → r ≡ fitting (length (those t (kept s))) (length ps) x → ps' ≡ listing_places (those t (kept s)) ps → ListingIs ps ps' r

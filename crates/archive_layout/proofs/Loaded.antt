@@ -10,12 +10,9 @@ use Rattle.archive_layout.specs.Fit.{Coding, Fit}
 use Rattle.archive_layout.specs.Loads.{load_check, IndexReady, IndexesAll}
 use Rattle.archive_layout.proofs.Fits.{ok_none, err_some}
 use Rattle.archive_layout.proofs.Loads.{all_homed}
-use Rattle.archive_layout.proofs.Prunes.{LoadIs, Passes, passes, fault_checked, load_refused, load_accepted}
+use Rattle.archive_layout.proofs.Prunes.{LoadIs, Passes, passes, load_refused, load_accepted}
 
 module _ (kind : Kind) (k : Coding) (s : State) (l : ℕ) (fresh : s.size ≡ None) where
-  pub checked_out : (r : Result Unit ArchiveFault) (f : ArchiveFault) → r ≡ or_fault (load_check l s.journal.limits kind.width) tt → r ≡ Err f → LoadIs kind s s l (Err f)
-  checked_out r f is e = load_refused kind s l f (fault_checked kind s l fresh f (err_some (load_check l s.journal.limits kind.width) tt f (sym is ∙ e)))
-
   module _ (r : Result Unit ArchiveFault) (is : r ≡ or_fault (load_check l s.journal.limits kind.width) tt) (e : r ≡ Ok tt) where
     pub pass : Passes kind s l fresh
     pass = passes kind s l fresh (ok_none (load_check l s.journal.limits kind.width) tt tt (sym is ∙ e)).0

@@ -8,7 +8,7 @@ use Rattle.rules.specs.declared.answer.Pruned.{Pruned}
 use Rattle.rules.specs.declared.answer.Pruned.TheVariants.{Struck}
 use Rattle.rules.specs.declared.answer.Counts.{Counts}
 use Rattle.rules.specs.declared.fault.ArchiveFault.{ArchiveFault}
-use Rattle.rules.specs.declared.fault.ArchiveFault.TheVariants.{AlreadyLoaded, SectionSize, JournalLimits, KeyWidth}
+use Rattle.rules.specs.declared.fault.ArchiveFault.TheVariants.{SectionSize, JournalLimits, KeyWidth}
 use Rattle.rules.specs.State.{Kind, State, section_of, records_of, kept, distinct}
 use Rattle.rules.specs.Calls.{if_loaded, changed_if_loaded, floor_reaches, struck, prune_at, prune_answer, prune_next, prune_after, counts_answer, archive_limits, row_fault, fresh_load_fault, load_fault_by, load_fault, load_answer, loaded, load_after}
 use Rattle.index_layout.specs.Views.{View, Apart}
@@ -59,9 +59,6 @@ module _ (kind : Kind) (s : State) (l : ℕ) where
     answer = ap (λ i. Ok i) c ∙ ap (λ o. or_fault o (length (kept s))) (sym e);
     after = to ∙ ap (λ o. or_keep o (loaded s l) s) (sym e);
   }
-
-  pub fault_already : (before : ℕ) → s.size ≡ Some before → load_fault kind s l ≡ Some AlreadyLoaded
-  fault_already before e = ap (λ o. load_fault_by kind o s.journal l) e
 
   module _ (fresh : s.size ≡ None) where
     new_fault : load_fault kind s l ≡ fresh_load_fault kind s.journal l
