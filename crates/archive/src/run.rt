@@ -1,11 +1,11 @@
 // Whole runs: an archive is made over a journal and taken through turns, each answered where it lies.
 
-ghost use Rattle.std.specs.Prelude.{◌≡◌, map};
+ghost use Rattle.std.specs.Prelude.{◌≡◌};
 ghost use Rattle.std.specs.Vec.{vec_items};
 ghost use Rattle.rules.specs.Law.{Law};
 ghost use Rattle.archive.specs.Parts.{kind_of};
 ghost use Rattle.archive.specs.Archives.{state_of, Fits};
-ghost use Rattle.archive.specs.Runs.{history, RunsAlike};
+ghost use Rattle.archive.specs.Runs.{history, SameCalls, RunsAlike};
 
 use crate::archive::Archive;
 use journal::Journal;
@@ -22,7 +22,7 @@ pub fn run<J: Journal, T: Translator, K: Key>(
 ) -> Archive<J, T, K>
     ensures law { (o : J.Journal.past) → J.Journal.fits o journal → Law (kind_of T.Translator.translated K.Key.W K.Key.flaw translator) (J.Journal.meaning journal) (history K.Key.bytes (vec_items turns.old) (vec_items turns.new)) (state_of J.Journal.meaning result) }
     ensures fit { (o : J.Journal.past) → J.Journal.fits o journal → Fits J.Journal.fits J.Journal.meaning T.Translator.translated T.Translator.hashed K.Key.W o result }
-    ensures turns { map (λ u. u.call) (vec_items turns.new) ≡ map (λ u. u.call) (vec_items turns.old) }
+    ensures turns { SameCalls (vec_items turns.old) (vec_items turns.new) }
 {
     let mut archive = Archive::new(journal, translator);
     for turn in turns.iter_mut() {
@@ -44,6 +44,8 @@ pub fn run_both<J: Journal, I: Journal, T: Translator + Copy, K: Key>(
     ensures law { (o : J.Journal.past) → J.Journal.fits o journal → Law (kind_of T.Translator.translated K.Key.W K.Key.flaw translator) (J.Journal.meaning journal) (history K.Key.bytes (vec_items turns.old) (vec_items turns.new)) (state_of J.Journal.meaning result.0) }
     ensures law_of_other { (p : I.Journal.past) → I.Journal.fits p other → Law (kind_of T.Translator.translated K.Key.W K.Key.flaw translator) (I.Journal.meaning other) (history K.Key.bytes (vec_items others.old) (vec_items others.new)) (state_of I.Journal.meaning result.1) }
     ensures fit { (o : J.Journal.past) → J.Journal.fits o journal → Fits J.Journal.fits J.Journal.meaning T.Translator.translated T.Translator.hashed K.Key.W o result.0 }
+    ensures turns { SameCalls (vec_items turns.old) (vec_items turns.new) }
+    ensures others { SameCalls (vec_items others.old) (vec_items others.new) }
     ensures fit_of_other { (p : I.Journal.past) → I.Journal.fits p other → Fits I.Journal.fits I.Journal.meaning T.Translator.translated T.Translator.hashed K.Key.W p result.1 }
 {
     (

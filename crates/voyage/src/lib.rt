@@ -8,7 +8,6 @@ ghost use Rattle.memory.specs.Start.{start_fault};
 ghost use Rattle.format.specs.Mount.{mount_fault};
 ghost use Rattle.format.specs.State.{decoded};
 ghost use Rattle.archive.specs.Parts.{kind_of};
-ghost use Rattle.archive.specs.Runs.{history};
 ghost use Rattle.voyage.specs.Voyages.{Sails, SailsIf};
 
 use archive::run::run;
@@ -28,7 +27,7 @@ pub fn run_cached<J: Journal, T: Translator + Drop, K: Key + Drop>(
     translator: T,
     turns: &mut Vec<Turn<K>>,
 ) -> J
-    ensures law { (o : J.Journal.past) → J.Journal.fits o journal → Sails (kind_of T.Translator.translated K.Key.W K.Key.flaw translator) (J.Journal.meaning journal) (history K.Key.bytes (vec_items turns.old) (vec_items turns.new)) (J.Journal.meaning result) }
+    ensures law { (o : J.Journal.past) → J.Journal.fits o journal → Sails (kind_of T.Translator.translated K.Key.W K.Key.flaw translator) (J.Journal.meaning journal) K.Key.bytes (vec_items turns.old) (vec_items turns.new) (J.Journal.meaning result) }
     ensures fit { (o : J.Journal.past) → J.Journal.fits o journal → J.Journal.fits o result }
 {
     run(Cache::over(journal), translator, turns)

@@ -4,7 +4,6 @@ use Rattle.journal.specs.Making.{made, empty}
 use Rattle.memory_layout.specs.View.{meaning_of}
 use Rattle.memory.specs.Start.{start_fault}
 use Rattle.archive.specs.Parts.{kind_of}
-use Rattle.archive.specs.Runs.{history}
 use Rattle.voyage.specs.Voyages.{Sails, SailsIf}
 use Rattle.voyage.proofs.Checks.{no_fault}
 use Rattle.voyage.proofs.run_in_memory.Goals as goal
@@ -17,5 +16,6 @@ returns-clause-answer g c =
     let none = no_fault fault c.check.result c.check.ensures c.in_ok-check.was in
     let after = meaning_of c.run_cached.result in
     let same = c.start.ensures.meaning ∙ ap (λ o. made o (empty a.limits)) none in
+    let sails = subst (λ x. Sails kind x g.K.Key.bytes (vec_items a.turns.now) (vec_items c.run_cached.new.turns) after) same (c.run_cached.ensures.law tt c.start.ensures.fit) in
     subst (λ o. SailsIf o kind (empty a.limits) g.K.Key.bytes (vec_items a.turns.now) (vec_items c.run_cached.new.turns) (Ok tt)) (sym none)
-    (refl, after, subst (λ x. Sails kind x (history g.K.Key.bytes (vec_items a.turns.now) (vec_items c.run_cached.new.turns)) after) same (c.run_cached.ensures.law tt c.start.ensures.fit))
+    (refl, sails.calls, sails.state, sails.law)

@@ -5,7 +5,6 @@ use Rattle.format.specs.Mount.{mount_fault}
 use Rattle.format.specs.State.{decoded}
 use Rattle.pages.specs.Journals.{means}
 use Rattle.archive.specs.Parts.{kind_of}
-use Rattle.archive.specs.Runs.{history}
 use Rattle.voyage.specs.Voyages.{Sails, SailsIf}
 use Rattle.voyage.proofs.Checks.{no_fault}
 use Rattle.voyage.proofs.run_on_pages.Goals as goal
@@ -19,5 +18,6 @@ returns-clause-answer g c =
     let none = no_fault fault c.check.result c.check.ensures c.in_ok-check.was in
     let after = means c.run_cached.result in
     let same = c.mount.ensures.meaning ∙ ap (λ o. made o m) none in
+    let sails = subst (λ x. Sails kind x g.K.Key.bytes (vec_items a.turns.now) (vec_items c.run_cached.new.turns) after) same (c.run_cached.ensures.law tt c.mount.ensures.fit) in
     subst (λ o. SailsIf o kind m g.K.Key.bytes (vec_items a.turns.now) (vec_items c.run_cached.new.turns) (Ok tt)) (sym none)
-    (refl, after, subst (λ x. Sails kind x (history g.K.Key.bytes (vec_items a.turns.now) (vec_items c.run_cached.new.turns)) after) same (c.run_cached.ensures.law tt c.mount.ensures.fit))
+    (refl, sails.calls, sails.state, sails.law)
