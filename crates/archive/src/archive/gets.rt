@@ -34,11 +34,7 @@ impl<J: Journal, T: Translator, K: Key> Archive<J, T, K> {
     }
 
     /// Some record that bears a key: the least by number and then position.
-    pub fn get_key(
-        &mut self,
-        key: &K,
-        value: &mut [u8],
-    ) -> Result<Option<Found>, ArchiveFault>
+    pub fn get_key(&mut self, key: &K, value: &mut [u8]) -> Result<Option<Found>, ArchiveFault>
         ensures { Does J.fits J.meaning T.translated T.hashed K.W self.old self.new (λ s (x : Result (Option Found) ArchiveFault × List ℕ). GetsKey s (K.bytes key.now) value.old x.0 x.1) (λ s. s) (result, value.new) }
     {
         let Some(size) = self.size else {
@@ -54,11 +50,7 @@ impl<J: Journal, T: Translator, K: Key> Archive<J, T, K> {
     }
 
     /// The record at a place.
-    pub fn get_at(
-        &mut self,
-        place: Place,
-        value: &mut [u8],
-    ) -> Result<Option<Found>, ArchiveFault>
+    pub fn get_at(&mut self, place: Place, value: &mut [u8]) -> Result<Option<Found>, ArchiveFault>
         ensures { Does J.fits J.meaning T.translated T.hashed K.W self.old self.new (λ s. With (get_place_answer s place (length value.old)) (get_place_buffer s place value.old)) (λ s. s) (result, value.new) }
     {
         let Some(size) = self.size else {

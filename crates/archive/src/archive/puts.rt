@@ -68,12 +68,7 @@ impl<J: Journal, T: Translator, K: Key> Archive<J, T, K> {
     }
 
     /// Stores a record, unless its number is below the floor; others may have the number too.
-    pub fn put_multi(
-        &mut self,
-        label: Label,
-        key: &K,
-        value: &[u8],
-    ) -> Result<Put, ArchiveFault>
+    pub fn put_multi(&mut self, label: Label, key: &K, value: &[u8]) -> Result<Put, ArchiveFault>
         ensures { Does J.fits J.meaning T.translated T.hashed K.W self.old self.new (λ s x. x ≡ put_answer s true label (K.bytes key.now) value.now) (λ s. put_after s true label (K.bytes key.now) value.now) result }
     {
         let Some(start) = self.home_of(label.number)? else {
