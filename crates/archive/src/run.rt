@@ -23,6 +23,7 @@ pub fn run<J: Journal, T: Translator, K: Key>(
     ensures law { (o : J.Journal.past) → J.Journal.fits o journal → Law (kind_of T.Translator.translated K.Key.W K.Key.flaw translator) (J.Journal.meaning journal) (history K.Key.bytes (vec_items turns.old) (vec_items turns.new)) (state_of J.Journal.meaning result) }
     ensures fit { (o : J.Journal.past) → J.Journal.fits o journal → Fits J.Journal.fits J.Journal.meaning T.Translator.translated T.Translator.hashed K.Key.W o result }
     ensures turns { SameCalls (vec_items turns.old) (vec_items turns.new) }
+    ensures translator { result.translator ≡ translator }
 {
     let mut archive = Archive::new(journal, translator);
     for turn in turns.iter_mut() {
@@ -46,6 +47,7 @@ pub fn run_both<J: Journal, I: Journal, T: Translator + Copy, K: Key>(
     ensures fit { (o : J.Journal.past) → J.Journal.fits o journal → Fits J.Journal.fits J.Journal.meaning T.Translator.translated T.Translator.hashed K.Key.W o result.0 }
     ensures turns { SameCalls (vec_items turns.old) (vec_items turns.new) }
     ensures others { SameCalls (vec_items others.old) (vec_items others.new) }
+    ensures translators { (result.0.translator ≡ translator) × (result.1.translator ≡ translator) }
     ensures fit_of_other { (p : I.Journal.past) → I.Journal.fits p other → Fits I.Journal.fits I.Journal.meaning T.Translator.translated T.Translator.hashed K.Key.W p result.1 }
 {
     (

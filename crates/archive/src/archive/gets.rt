@@ -33,7 +33,7 @@ impl<J: Journal, T: Translator, K: Key> Archive<J, T, K> {
         read_found(&mut self.journal, spot, value)
     }
 
-    /// Some record that bears a key: the least by number and then position.
+    /// Some record that bears a key, its value to the front of `value`. Which one is left open.
     pub fn get_key(&mut self, key: &K, value: &mut [u8]) -> Result<Option<Found>, ArchiveFault>
         ensures { Does J.fits J.meaning T.translated T.hashed K.W self.old self.new (λ s (x : Result (Option Found) ArchiveFault × List ℕ). GetsKey s (K.bytes key.now) value.old x.0 x.1) (λ s. s) (result, value.new) }
     {

@@ -66,3 +66,6 @@ returns-clause-turns g c =
     let v = c.deref_mut-turn-items.ensures in
     let n : length items ≡ turns.len = omega (arith, c.loop-turn.auto.turn-items, v.len) in
     ap (map (λ u. u.call)) (with_items_is turns items n) ∙ c.loop-turn.invariant.1 ∙ ap (map (λ u. u.call)) v.value
+
+pub returns-clause-translator : goal.returns-clause-translator
+returns-clause-translator g c = c.loop-turn.invariant.2 ∙ c.new-archive.ensures.parts.1
