@@ -1,9 +1,9 @@
 // The answer line of a command.
 
 use crate::dump::Dump;
+use crate::sailed::Sailed;
 use keys::digest::Digest;
 use keys::kind::Key;
-use rules::answer::{Counts, Place, Pruned, Put};
 use script::text::{Escaped, Hex};
 use std::fmt;
 use summary::total::SectionTotal;
@@ -41,30 +41,7 @@ pub enum Answer<'a> {
     Saved(usize),
     Dump(Dump),
     VoyageReady,
-    Loaded(u64),
-    Put(Put),
-    Absent,
-    Found {
-        place: Place,
-        value: Vec<u8>,
-    },
-    Has(bool),
-    Listed {
-        places: Vec<Place>,
-        /// Of a listing by key.
-        candidates: Option<u64>,
-    },
-    Pruned {
-        pruned: Pruned,
-        floor: u64,
-    },
-    Counted(Counts),
-    NoExchange,
-    Alike {
-        answers: u64,
-        /// Of gets by a key that several records bore.
-        open: u64,
-    },
+    Sailed(Sailed),
 }
 
 // Sections parted by commas.
@@ -79,7 +56,7 @@ fn show_sections<W: fmt::Write>(totals: &[SectionTotal], f: &mut fmt::Formatter<
     Ok(())
 }
 
-fn show_value<W: fmt::Write>(value: &[u8], f: &mut fmt::Formatter<W>) -> fmt::Result {
+pub fn show_value<W: fmt::Write>(value: &[u8], f: &mut fmt::Formatter<W>) -> fmt::Result {
     let length = value.len();
     write!(f, "length {length}:")?;
     if length > 0 {
@@ -87,68 +64,6 @@ fn show_value<W: fmt::Write>(value: &[u8], f: &mut fmt::Formatter<W>) -> fmt::Re
         write!(f, " {text}")?;
     }
     Ok(())
-}
-
-fn show_put<W: fmt::Write>(put: Put, f: &mut fmt::Formatter<W>) -> fmt::Result {
-    match put {
-        Put::BelowFloor => f.write_str("below the floor"),
-        Put::AlreadyThere => f.write_str("already there"),
-        Put::Stored { section, position } => write!(f, "stored {section} {position}"),
-    }
-}
-
-fn show_found<W: fmt::Write>(place: Place, value: &[u8], f: &mut fmt::Formatter<W>) -> fmt::Result {
-    let Place { number, position } = place;
-    write!(f, "found {number} {position} ")?;
-    show_value(value, f)
-}
-
-fn show_places<W: fmt::Write>(places: &[Place], f: &mut fmt::Formatter<W>) -> fmt::Result {
-    for place in places {
-        let Place { number, position } = *place;
-        write!(f, " {number}/{position}")?;
-    }
-    Ok(())
-}
-
-fn show_listed<W: fmt::Write>(
-    places: &[Place],
-    candidates: Option<u64>,
-    f: &mut fmt::Formatter<W>,
-) -> fmt::Result {
-    let count = places.len();
-    match candidates {
-        Some(all) => write!(f, "listed {count} of {all}:")?,
-        None => write!(f, "listed {count}:")?,
-    }
-    show_places(places, f)
-}
-
-fn show_pruned<W: fmt::Write>(
-    pruned: Pruned,
-    floor: u64,
-    f: &mut fmt::Formatter<W>,
-) -> fmt::Result {
-    match pruned {
-        Pruned::Unchanged => f.write_str("unchanged"),
-        Pruned::Struck { numbers, records } => write!(
-            f,
-            "pruned floor {floor} numbers {numbers} records {records}"
-        ),
-    }
-}
-
-fn show_counts<W: fmt::Write>(counts: Counts, f: &mut fmt::Formatter<W>) -> fmt::Result {
-    let Counts {
-        records,
-        numbers,
-        floor,
-    } = counts;
-    write!(f, "counts records {records} numbers {numbers} floor ")?;
-    match floor {
-        Some(floor) => write!(f, "{floor}"),
-        None => f.write_str("none"),
-    }
 }
 
 impl fmt::Display for Answer<'_> {
@@ -190,18 +105,7 @@ impl fmt::Display for Answer<'_> {
             Answer::Saved(bytes) => write!(f, "saved {bytes} bytes"),
             Answer::Dump(dump) => write!(f, "{dump}"),
             Answer::VoyageReady => f.write_str("voyage ready"),
-            Answer::Loaded(records) => write!(f, "loaded {records}"),
-            Answer::Put(put) => show_put(*put, f),
-            Answer::Absent => f.write_str("absent"),
-            Answer::Found { place, value } => show_found(*place, value.as_slice(), f),
-            Answer::Has(has) => f.write_str(if *has { "yes" } else { "no" }),
-            Answer::Listed { places, candidates } => {
-                show_listed(places.as_slice(), *candidates, f)
-            }
-            Answer::Pruned { pruned, floor } => show_pruned(*pruned, *floor, f),
-            Answer::Counted(counts) => show_counts(*counts, f),
-            Answer::NoExchange => f.write_str("no two puts to exchange"),
-            Answer::Alike { answers, open } => write!(f, "alike {answers} answers, {open} open"),
+            Answer::Sailed(sailed) => write!(f, "{sailed}"),
         }
     }
 }

@@ -100,12 +100,16 @@ fn translate<'a>(mut rest: Rest<'a>) -> Result<Command<'a>, Misread> {
     }))
 }
 
+fn medium(name: &str) -> Result<Medium, Misread> {
+    match name {
+        "memory" => Ok(Medium::Memory),
+        "pages" => Ok(Medium::Pages),
+        _ => Err(Misread::UnknownJournal),
+    }
+}
+
 fn begin_journal<'a>(mut rest: Rest<'a>) -> Result<Command<'a>, Misread> {
-    let on = match rest.word()? {
-        "memory" => Medium::Memory,
-        "pages" => Medium::Pages,
-        _ => return Err(Misread::UnknownJournal),
-    };
+    let on = medium(rest.word()?)?;
     Ok(Command::Begin {
         on,
         limits: rest.limits()?,
@@ -119,11 +123,7 @@ fn begin_voyage<'a>(mut rest: Rest<'a>) -> Result<Command<'a>, Misread> {
         _ => return Err(Misread::UnknownKind),
     };
     let translator = translator(rest.word()?)?;
-    let on = match rest.word()? {
-        "memory" => Medium::Memory,
-        "pages" => Medium::Pages,
-        _ => return Err(Misread::UnknownJournal),
-    };
+    let on = medium(rest.word()?)?;
     let width = match kind {
         Kind::Box => BoxNumber::W,
         Kind::Digest => Digest::W,

@@ -1,27 +1,32 @@
 // The turns of a voyage made once more, and beside them the same with two puts exchanged.
 
-use crate::answer::Answer;
 use crate::command::Voyage;
 use crate::misread::Misread;
+use crate::sailed::Sailed;
 use crate::stop::Stop;
 use crate::store::{PageBytes, Rows};
 use crate::turns::{NOWHERE, key_of};
-use archive::run::run_both;
-use journal::Journal;
 use keys::kind::Key;
 use keys::translator::AnyTranslator;
-use memory::Memory;
-use pages::Pages;
 use rules::answer::Reply;
 use rules::call::Call;
 use rules::rounding::section_of;
 use rules::turn::Turn;
 use std::alloc::Global;
+use voyage::{run_in_memory, run_on_pages};
 
-/// A turn that was made, and whether the rules left its answer open.
+/// A call that was made: what making it anew takes, and how it was answered.
 #[derive(Drop)]
 struct Logged<K> {
-    turn: Turn<K>,
+    call: Call<K>,
+    /// What a put stored; no other call is handed bytes that matter.
+    value: Vec<u8>,
+    /// The sizes of its buffer and of its slice.
+    room: usize,
+    slots: usize,
+    /// Whether it was a put, and accepted.
+    stored: bool,
+    /// Whether the rules leave its answer open.
     open: bool,
 }
 
@@ -70,65 +75,65 @@ fn again<K: Key + Drop>(call: &Call<K>) -> Result<Call<K>, Stop> {
 }
 
 impl<K: Key + Drop> Logged<K> {
-    // The turn before it was made: a put has its value, and every other buffer is blank.
-    fn again(&self, heap: Global) -> Result<Turn<K>, Stop> {
-        let bytes = match self.turn.call {
-            Call::Put { .. } | Call::PutMulti { .. } => self.turn.bytes.as_slice().to_vec(heap)?,
-            _ => vec![in heap; 0; self.turn.bytes.len()]?,
+    fn new(heap: Global, turn: Turn<K>, open: bool) -> Logged<K> {
+        let Turn {
+            call,
+            bytes,
+            places,
+            answer,
+        } = turn;
+        let room = bytes.len();
+        let value = match call {
+            Call::Put { .. } | Call::PutMulti { .. } => bytes,
+            _ => Vec::new(heap),
         };
-        let places = vec![in heap; NOWHERE; self.turn.places.len()]?;
-        Ok(Turn::new(again(&self.turn.call)?, bytes, places))
+        Logged {
+            call,
+            value,
+            room,
+            slots: places.len(),
+            stored: matches!(answer, Some(Ok(Reply::Put(_)))),
+            open,
+        }
     }
 
-    // The number of an accepted put.
-    fn put(&self) -> Option<u64> {
-        let Some(Ok(Reply::Put(_))) = self.turn.answer else {
-            return None;
+    // The turn once more, yet to be made: a put has its value, and every other buffer is blank.
+    fn turn(&self, heap: Global) -> Result<Turn<K>, Stop> {
+        let bytes = match self.call {
+            Call::Put { .. } | Call::PutMulti { .. } => self.value.as_slice().to_vec(heap)?,
+            _ => vec![in heap; 0; self.room]?,
         };
-        match &self.turn.call {
-            Call::Put { label, .. } | Call::PutMulti { label, .. } => Some(label.number),
+        let places = vec![in heap; NOWHERE; self.slots]?;
+        Ok(Turn::new(again(&self.call)?, bytes, places))
+    }
+
+    // The number of a put that was accepted.
+    fn accepted_number(&self) -> Option<u64> {
+        match &self.call {
+            Call::Put { label, .. } | Call::PutMulti { label, .. } if self.stored => {
+                Some(label.number)
+            }
             _ => None,
         }
     }
 }
 
-// Two runs, each answered in its turns.
-fn run_beside<J: Journal + Drop, I: Journal + Drop, K: Key + Drop>(
-    journal: J,
-    other: I,
-    translator: AnyTranslator,
+fn run_pages<K: Key + Drop>(
+    mut pages: PageBytes,
+    by: AnyTranslator,
     turns: &mut Vec<Turn<K>>,
-    others: &mut Vec<Turn<K>>,
-) {
-    let _ = run_both(journal, other, translator, turns, others);
+) -> Result<(), Stop> {
+    let (entries, values) = (pages.entries.as_mut_slice(), pages.values.as_mut_slice());
+    Ok(run_on_pages(entries, values, pages.limits, by, turns)?)
 }
 
-fn run_on_pages<K: Key + Drop>(
-    mut first: PageBytes,
-    mut second: PageBytes,
-    translator: AnyTranslator,
+fn run_rows<K: Key + Drop>(
+    mut rows: Rows,
+    by: AnyTranslator,
     turns: &mut Vec<Turn<K>>,
-    others: &mut Vec<Turn<K>>,
-) {
-    let (entries, values) = (first.entries.as_mut_slice(), first.values.as_mut_slice());
-    let journal = Pages::mount(entries, values, first.limits);
-    let (entries, values) = (second.entries.as_mut_slice(), second.values.as_mut_slice());
-    let other = Pages::mount(entries, values, second.limits);
-    run_beside(journal, other, translator, turns, others);
-}
-
-fn run_on_both<K: Key + Drop>(
-    mut first: PageBytes,
-    mut second: Rows,
-    translator: AnyTranslator,
-    turns: &mut Vec<Turn<K>>,
-    others: &mut Vec<Turn<K>>,
-) {
-    let (entries, values) = (first.entries.as_mut_slice(), first.values.as_mut_slice());
-    let journal = Pages::mount(entries, values, first.limits);
-    let (records, bytes) = (second.records.as_mut_slice(), second.bytes.as_mut_slice());
-    let other = Memory::start(records, bytes, second.limits);
-    run_beside(journal, other, translator, turns, others);
+) -> Result<(), Stop> {
+    let (records, bytes) = (rows.records.as_mut_slice(), rows.bytes.as_mut_slice());
+    Ok(run_in_memory(records, bytes, rows.limits, by, turns)?)
 }
 
 fn is_alike<K>(turn: &Turn<K>, other: &Turn<K>) -> bool {
@@ -157,11 +162,11 @@ impl<K: Key + Drop> Log<K> {
         }
     }
 
-    pub fn note(&mut self, turn: Turn<K>, open: bool) -> Result<(), Stop> {
+    pub fn note(&mut self, heap: Global, turn: Turn<K>, open: bool) -> Result<(), Stop> {
         if let (Call::Load { size }, Some(Ok(_))) = (&turn.call, turn.answer) {
             self.size = Some(*size);
         }
-        self.made.push(Logged { turn, open })?;
+        self.made.push(Logged::new(heap, turn, open))?;
         Ok(())
     }
 
@@ -171,7 +176,7 @@ impl<K: Key + Drop> Log<K> {
         let mut found = None;
         let mut before: Option<u64> = None;
         for (i, logged) in self.made.iter().enumerate() {
-            let put = logged.put();
+            let put = logged.accepted_number();
             if let (Some(first), Some(second)) = (before, put) {
                 if section_of(size, first) != section_of(size, second) {
                     found = i.checked_sub(1);
@@ -188,12 +193,13 @@ impl<K: Key + Drop> Log<K> {
         for i in 0..self.made.len() {
             let from = at.map_or(i, |at| moved(i, at));
             if let Some(logged) = self.made.get(from) {
-                turns.push(logged.again(heap)?)?;
+                turns.push(logged.turn(heap)?)?;
             }
         }
         Ok(turns)
     }
 
+    // Both runs: the second on memory rows where the voyage began empty.
     fn run(
         &self,
         heap: Global,
@@ -201,32 +207,26 @@ impl<K: Key + Drop> Log<K> {
         turns: &mut Vec<Turn<K>>,
         others: &mut Vec<Turn<K>>,
     ) -> Result<(), Stop> {
+        let by = voyage.translator;
         match &self.began {
             Some(pages) => {
-                let other = pages.copy(heap)?;
-                run_on_pages(pages.copy(heap)?, other, voyage.translator, turns, others);
+                run_pages(pages.copy(heap)?, by, turns)?;
+                run_pages(pages.copy(heap)?, by, others)
             }
             None => {
-                let other = Rows::new(heap, voyage.limits)?;
-                let pages = PageBytes::new(heap, voyage.limits)?;
-                run_on_both(pages, other, voyage.translator, turns, others);
+                run_pages(PageBytes::new(heap, voyage.limits)?, by, turns)?;
+                run_rows(Rows::new(heap, voyage.limits)?, by, others)
             }
         }
-        Ok(())
     }
 
     // How many answers are alike, and how many were left open.
-    fn compare<'a>(
-        &self,
-        at: usize,
-        turns: &[Turn<K>],
-        others: &[Turn<K>],
-    ) -> Result<Answer<'a>, Stop> {
+    fn compare(&self, at: usize, turns: &[Turn<K>], others: &[Turn<K>]) -> Result<Sailed, Stop> {
         let mut answers: u64 = 0;
         let mut open: u64 = 0;
         for (i, logged) in self.made.iter().enumerate() {
             let (Some(turn), Some(other)) = (turns.get(i), others.get(moved(i, at))) else {
-                return Err(Stop::Misread(Misread::Differ));
+                return Err(Stop::Misread(Misread::NotMade));
             };
             if logged.open {
                 open = open.saturating_add(1);
@@ -236,14 +236,14 @@ impl<K: Key + Drop> Log<K> {
                 return Err(Stop::Misread(Misread::Differ));
             }
         }
-        Ok(Answer::Alike { answers, open })
+        Ok(Sailed::Alike { answers, open })
     }
 
     /// The turns so far made anew on pages, and beside them with the last two such puts exchanged: on memory rows if the
     /// voyage began empty.
-    pub fn exchange<'a>(&self, heap: Global, voyage: &Voyage) -> Result<Answer<'a>, Stop> {
+    pub fn exchange(&self, heap: Global, voyage: &Voyage) -> Result<Sailed, Stop> {
         let Some(at) = self.last_puts() else {
-            return Ok(Answer::NoExchange);
+            return Ok(Sailed::NoExchange);
         };
         let mut turns = self.turns(heap, None)?;
         let mut others = self.turns(heap, Some(at))?;

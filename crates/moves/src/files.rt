@@ -22,11 +22,15 @@ fn write_through(rt: &HostRuntime, path: &str, bytes: &[u8]) -> io::Result<()> {
 /// Writes a file under its name. It is written beside the old one first, so that none is ever left half written.
 pub fn replace_file(rt: &HostRuntime, path: &str, bytes: &[u8]) -> Result<(), Stop> {
     let beside = format!(in rt.alloc(); "{path}.new")?;
-    if write_through(rt, beside.as_str(), bytes).is_err() {
+    let written = write_through(rt, beside.as_str(), bytes).and_then(|_| fs::rename(
+        rt,
+        beside.as_str(),
+        path,
+    ));
+    written.map_err(|_| {
         let _ = fs::remove_file(rt, beside.as_str());
-        return Err(Stop::Misread(Misread::NotWritten));
-    }
-    fs::rename(rt, beside.as_str(), path).map_err(|_| Stop::Misread(Misread::NotWritten))
+        Stop::Misread(Misread::NotWritten)
+    })
 }
 
 fn read_pages(rt: &HostRuntime, path: &str, limits: Limits) -> Result<PageBytes, Stop> {

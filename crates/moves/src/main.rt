@@ -12,6 +12,7 @@ mod journal_desk;
 mod misread;
 mod refusal;
 mod rest;
+mod sailed;
 mod sailing;
 mod stop;
 mod store;

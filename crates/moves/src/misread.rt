@@ -2,7 +2,7 @@
 
 use std::fmt;
 
-/// What keeps a line from being understood.
+/// What keeps a line from being understood, or from being obeyed.
 #[derive(Clone, Copy, Debug, PartialEq, Eq)]
 pub enum Misread {
     NotUtf8,
@@ -19,6 +19,7 @@ pub enum Misread {
     NoVoyage,
     NoPages,
     RoomTooLarge,
+    NotMade,
     Differ,
     NotRelative,
     NotRead,
@@ -41,6 +42,7 @@ impl fmt::Display for Misread {
             Misread::NoJournal => "no journal is begun",
             Misread::NoVoyage => "no voyage is begun",
             Misread::RoomTooLarge => "a room above 65536",
+            Misread::NotMade => "the call was not made",
             Misread::Differ => "the answers differ",
             Misread::NoPages => "the journal does not lie on pages",
             Misread::NotRelative => "not a relative path",

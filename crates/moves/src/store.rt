@@ -5,6 +5,7 @@ use journal::fault::JournalFault;
 use journal::limits::Limits;
 use memory::{Memory, RowRecord};
 use pages::Pages;
+use pages::sizes::Sizes;
 use std::alloc::Global;
 
 /// Where a journal is to lie.
@@ -66,27 +67,21 @@ impl Rows {
     }
 }
 
-// How many bytes the entries take; none for limits that no journal may have.
-fn entries_size(limits: Limits) -> usize {
-    match Pages::sizes(limits) {
-        Some(sizes) => sizes.entries,
-        None => 0,
-    }
-}
-
-fn values_size(limits: Limits) -> usize {
-    match Pages::sizes(limits) {
-        Some(sizes) => sizes.values,
-        None => 0,
-    }
+// How long the slices are; nothing for limits that no journal may have.
+fn sizes(limits: Limits) -> Sizes {
+    Pages::sizes(limits).unwrap_or(Sizes {
+        entries: 0,
+        values: 0,
+    })
 }
 
 impl PageBytes {
     /// Pages that are all free; refused where no journal may have the limits.
     pub fn new(heap: Global, limits: Limits) -> Result<PageBytes, Stop> {
+        let sizes = sizes(limits);
         let pages = PageBytes {
-            entries: vec![in heap; 0; entries_size(limits)]?,
-            values: vec![in heap; 0; values_size(limits)]?,
+            entries: vec![in heap; 0; sizes.entries]?,
+            values: vec![in heap; 0; sizes.values]?,
             limits,
         };
         pages.check()?;
@@ -95,7 +90,7 @@ impl PageBytes {
 
     /// The bytes of a file: what the entries take of its front, and the rest as the values. Nothing is checked yet.
     pub fn from_file(heap: Global, file: &[u8], limits: Limits) -> Result<PageBytes, Stop> {
-        let at = entries_size(limits).min(file.len());
+        let at = sizes(limits).entries.min(file.len());
         Ok(PageBytes {
             entries: file[..at].to_vec(heap)?,
             values: file[at..].to_vec(heap)?,

@@ -6,6 +6,7 @@ use crate::desk::{Begun, Desk, Saved, save};
 use crate::exchange::Log;
 use crate::files::open;
 use crate::misread::Misread;
+use crate::sailed::Sailed;
 use crate::sailing::ArchiveCall;
 use crate::stop::Stop;
 use crate::turns::{KeyText, turn_of};
@@ -38,50 +39,42 @@ impl<J: Journal, K: KeyText + Drop> VoyageDesk<'_, J, K> {
         }
     }
 
-    fn found<'a>(&self, found: Found, turn: &Turn<K>) -> Result<Answer<'a>, Stop> {
+    fn found(&self, found: Found, turn: &Turn<K>) -> Result<Sailed, Stop> {
         let length = (found.length as usize).min(turn.bytes.len());
-        Ok(Answer::Found {
+        Ok(Sailed::Found {
             place: found.place,
             value: turn.bytes[..length].to_vec(self.rt.alloc())?,
         })
     }
 
-    fn listed<'a>(
-        &self,
-        count: u64,
-        candidates: Option<u64>,
-        turn: &Turn<K>,
-    ) -> Result<Answer<'a>, Stop> {
+    fn listed(&self, count: u64, candidates: Option<u64>, turn: &Turn<K>) -> Result<Sailed, Stop> {
         let count = (count as usize).min(turn.places.len());
-        Ok(Answer::Listed {
+        Ok(Sailed::Listed {
             places: turn.places[..count].to_vec(self.rt.alloc())?,
             candidates,
         })
     }
 
-    fn pruned<'a>(&self, pruned: Pruned) -> Answer<'a> {
+    fn pruned(&self, pruned: Pruned) -> Sailed {
         let floor = match self.archive.counts() {
             Ok(counts) => counts.floor.unwrap_or(0),
             Err(_) => 0,
         };
-        Answer::Pruned { pruned, floor }
+        Sailed::Pruned { pruned, floor }
     }
 
     // What a turn that was made says.
-    fn answer<'a>(&self, turn: &Turn<K>) -> Result<Answer<'a>, Stop> {
-        let Some(answer) = turn.answer else {
-            return Err(Stop::Misread(Misread::Differ));
-        };
-        match answer? {
-            Reply::Loaded { records } => Ok(Answer::Loaded(records)),
-            Reply::Put(put) => Ok(Answer::Put(put)),
+    fn answer(&self, turn: &Turn<K>) -> Result<Sailed, Stop> {
+        match turn.answer.ok_or(Misread::NotMade)?? {
+            Reply::Loaded { records } => Ok(Sailed::Loaded(records)),
+            Reply::Put(put) => Ok(Sailed::Put(put)),
             Reply::Pruned(pruned) => Ok(self.pruned(pruned)),
-            Reply::Found(None) => Ok(Answer::Absent),
+            Reply::Found(None) => Ok(Sailed::Absent),
             Reply::Found(Some(found)) => self.found(found, turn),
-            Reply::Has(has) => Ok(Answer::Has(has)),
+            Reply::Has(has) => Ok(Sailed::Has(has)),
             Reply::ListedByNumber { count } => self.listed(count, None, turn),
             Reply::ListedByKey(listed) => self.listed(listed.count, Some(listed.candidates), turn),
-            Reply::Counted(counts) => Ok(Answer::Counted(counts)),
+            Reply::Counted(counts) => Ok(Sailed::Counted(counts)),
         }
     }
 }
@@ -96,8 +89,8 @@ impl<J: Journal + Saved, K: KeyText + Drop> Desk for VoyageDesk<'_, J, K> {
         let open = self.is_open(&turn);
         self.archive.take(&mut turn);
         let answer = self.answer(&turn);
-        self.log.note(turn, open)?;
-        answer
+        self.log.note(self.rt.alloc(), turn, open)?;
+        Ok(Answer::Sailed(answer?))
     }
 
     fn save(&self, file: &str) -> Result<usize, Stop> {
@@ -118,6 +111,6 @@ impl<J: Journal + Saved, K: KeyText + Drop> Desk for VoyageDesk<'_, J, K> {
     }
 
     fn exchange<'a>(&self) -> Result<Answer<'a>, Stop> {
-        self.log.exchange(self.rt.alloc(), &self.voyage)
+        Ok(Answer::Sailed(self.log.exchange(self.rt.alloc(), &self.voyage)?))
     }
 }
