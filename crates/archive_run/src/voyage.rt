@@ -5,6 +5,7 @@ use crate::draw::Source;
 use crate::model::Model;
 use crate::random::Random;
 use crate::rows::{Row, refill, rows_of, same_rows};
+use crate::stores::Stores;
 use crate::tally::{Tally, bump};
 use archive::archive::Archive;
 use cache::Cache;
@@ -12,9 +13,8 @@ use journal::Journal;
 use journal::limits::Limits;
 use keys::kind::Key;
 use keys::translator::Translator;
-use memory::{Memory, RowRecord};
+use memory::Memory;
 use pages::Pages;
-use pages::sizes::Sizes;
 use std::alloc::{AllocError, Global};
 
 /// A journal that can be made anew over what it leaves.
@@ -25,38 +25,6 @@ pub trait Remount: Journal + Sized {
 impl Remount for Pages<'_> {
     fn remounted(self) -> Self {
         self.remount()
-    }
-}
-
-/// What the journals of a voyage lie in.
-#[derive(Drop)]
-pub struct Stores {
-    pub limits: Limits,
-    pub entries: Vec<u8>,
-    pub values: Vec<u8>,
-    pub records: Vec<RowRecord>,
-    pub bytes: Vec<u8>,
-}
-
-impl Stores {
-    pub fn new(heap: Global, limits: Limits) -> Result<Stores, AllocError> {
-        let Sizes { entries, values } = Pages::sizes(limits).unwrap_or(Sizes {
-            entries: 0,
-            values: 0,
-        });
-        let area = limits
-            .rows
-            .saturating_mul(limits.width)
-            .saturating_add(limits.bytes);
-        let records = limits.slots.saturating_mul(limits.rows) as usize;
-        let bytes = limits.slots.saturating_mul(area) as usize;
-        Ok(Stores {
-            limits,
-            entries: vec![in heap; 0; entries]?,
-            values: vec![in heap; 0; values]?,
-            records: vec![in heap; RowRecord::BLANK; records]?,
-            bytes: vec![in heap; 0; bytes]?,
-        })
     }
 }
 
