@@ -2,6 +2,7 @@
 // it. It shares the types of calls and answers with the library, and the translators, which say who is a candidate.
 
 use crate::record::{Record, Wanted};
+use crate::rows::Row;
 use journal::fault::JournalFault;
 use journal::limits::Limits;
 use journal::row::Label;
@@ -294,6 +295,17 @@ impl Model {
             numbers: self.numbers_below(None),
             floor: self.floor,
         }))
+    }
+
+    /// Whether rows, by rising start and position, are just the records.
+    pub fn keeps(&self, rows: &[Row]) -> bool {
+        rows.len() == self.records.len()
+            && self.records.iter().all(|record| {
+                let mut section = rows.iter().filter(|row| row.start == record.start);
+                section
+                    .nth(record.position as usize)
+                    .is_some_and(|row| record.equals(row))
+            })
     }
 
     /// The places of the records that are wanted, by number and then by position.

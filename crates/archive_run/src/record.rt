@@ -1,5 +1,6 @@
 // A record as the model keeps it, and what a call looks for.
 
+use crate::rows::Row;
 use rules::answer::Place;
 
 #[derive(Drop)]
@@ -28,6 +29,13 @@ impl Record {
             number: self.number,
             position: self.position,
         }
+    }
+
+    /// Whether a row of its section is it.
+    pub fn equals(&self, row: &Row) -> bool {
+        self.number == row.number
+            && self.key.as_slice() == row.key.as_slice()
+            && self.value.as_slice() == row.value.as_slice()
     }
 
     /// What it costs its section.

@@ -86,7 +86,7 @@ impl<T: Translator + Copy + Drop, K: Key + Copy + Drop> Desk<T, K> {
         let others = rows_of(self.source.heap, &mut other)?;
         self.tally
             .judge(same_rows(rows.as_slice(), others.as_slice()));
-        self.tally.judge(rows.len() == self.model.records.len());
+        self.tally.judge(self.model.keeps(rows.as_slice()));
         Ok(rows)
     }
 
