@@ -1,5 +1,8 @@
 // The turns of a voyage made once more, and beside them the same with two puts exchanged.
 
+ghost use Rattle.std.specs.Prelude.{◌≡◌, ◌+◌, ◌^◌, ◌<◌};
+ghost use Rattle.moves.specs.Sizes.{exchanged};
+
 use crate::command::Voyage;
 use crate::misread::Misread;
 use crate::sailed::Sailed;
@@ -143,7 +146,9 @@ fn is_alike<K>(turn: &Turn<K>, other: &Turn<K>) -> bool {
 }
 
 // Where the turn at a place stands once those at `at` and behind it are exchanged.
-fn moved(i: usize, at: usize) -> usize {
+fn moved(i: usize, at: usize) -> usize
+    ensures { at + 1 < 2 ^ 64 → result ≡ exchanged i at }
+{
     if i == at {
         i.saturating_add(1)
     } else if i == at.saturating_add(1) {

@@ -1,5 +1,7 @@
 // The lines that call the archive of a voyage.
 
+ghost use Rattle.std.specs.Prelude.{◌≤◌, IfOk, IfSome};
+
 use crate::misread::Misread;
 use crate::rest::Rest;
 use rules::answer::Place;
@@ -39,7 +41,9 @@ fn to_write<'a>(mut rest: Rest<'a>) -> Result<Written<'a>, Misread> {
 }
 
 // The size of a buffer or of a slice, where the line names one.
-fn room(rest: Rest<'_>) -> Result<Option<u64>, Misread> {
+fn room(rest: Rest<'_>) -> Result<Option<u64>, Misread>
+    ensures { IfOk result (λ o. IfSome o (λ n. n ≤ 65_536)) }
+{
     match rest.number_or_none()? {
         Some(room) if room > 65_536 => Err(Misread::RoomTooLarge),
         room => Ok(room),

@@ -1,5 +1,9 @@
 // What a journal lies in: memory for rows, or the bytes of pages.
 
+ghost use Rattle.std.specs.Prelude.{◌≡◌};
+ghost use Rattle.pages.specs.Lengths.{sizes_of};
+ghost use Rattle.moves.specs.Sizes.{pages_for};
+
 use crate::stop::Stop;
 use journal::fault::JournalFault;
 use journal::limits::Limits;
@@ -68,7 +72,9 @@ impl Rows {
 }
 
 // How long the slices are; nothing for limits that no journal may have.
-fn sizes(limits: Limits) -> Sizes {
+fn sizes(limits: Limits) -> Sizes
+    ensures { result ≡ pages_for (sizes_of limits) }
+{
     Pages::sizes(limits).unwrap_or(Sizes {
         entries: 0,
         values: 0,
