@@ -1,0 +1,186 @@
+//! Stand-in for the original's rows of one size. It has no pages, and checks none.
+use super::manager::{Config as ManagerConfig, Manager, WriteFactory};
+use crate::{Context, journal::Error};
+use commonware_codec::CodecFixedShared;
+use commonware_runtime::{Handle, ReadOptions, buffer::paged::CacheRef};
+use std::{collections::BTreeMap, marker::PhantomData, num::NonZeroUsize};
+pub struct Config {
+    pub partition: String,
+    pub page_cache: CacheRef,
+    pub write_buffer: NonZeroUsize,
+}
+pub struct Journal<E: Context, I> {
+    m: Manager<E, WriteFactory>,
+    _p: PhantomData<fn(I)>,
+}
+pub struct RecoveryPreflight<E: Context, I> {
+    journal: Journal<E, I>,
+    boundaries: BTreeMap<u64, Option<I>>,
+}
+impl<E: Context, I: CodecFixedShared> RecoveryPreflight<E, I> {
+    pub fn boundaries(&self) -> &BTreeMap<u64, Option<I>> {
+        &self.boundaries
+    }
+    pub async fn finish(self) -> Result<Journal<E, I>, Error> {
+        Ok(self.journal)
+    }
+}
+pub struct Replay<E: Context, I> {
+    journal: Journal<E, I>,
+    sections: Vec<u64>,
+    at: (usize, u64),
+}
+impl<E: Context, I: CodecFixedShared> Replay<E, I> {
+    pub async fn next(&mut self) -> Option<Result<(u64, u64, I), Error>> {
+        loop {
+            let &s = self.sections.get(self.at.0)?;
+            let p = self.at.1;
+            match self.journal.section_len(s) {
+                Ok(n) if p >= n => self.at = (self.at.0 + 1, 0),
+                Ok(_) => {
+                    self.at.1 += 1;
+                    return Some(self.journal.get(s, p).await.map(|i| (s, p, i)));
+                }
+                Err(e) => return Some(Err(e)),
+            }
+        }
+    }
+    pub fn finish(self) -> Result<Journal<E, I>, Error> {
+        if self.at.0 < self.sections.len() {
+            Err(Error::ReplayFailed)
+        } else {
+            Ok(self.journal)
+        }
+    }
+}
+impl<E: Context, I: CodecFixedShared> Journal<E, I> {
+    pub const CHUNK_SIZE: usize = I::SIZE;
+    pub async fn init_bounded(context: E, cfg: Config, ceiling: u64) -> Result<Self, Error> {
+        let cfg = ManagerConfig {
+            partition: cfg.partition,
+            factory: WriteFactory {
+                capacity: cfg.write_buffer,
+            },
+        };
+        Ok(Self {
+            m: Manager::init_bounded(context, cfg, ceiling).await?,
+            _p: PhantomData,
+        })
+    }
+    pub async fn preflight_floors(
+        context: E,
+        cfg: Config,
+        floors: &BTreeMap<u64, u64>,
+        ceiling: u64,
+    ) -> Result<RecoveryPreflight<E, I>, Error> {
+        let journal = Self::init_bounded(context, cfg, ceiling).await?;
+        let mut boundaries = BTreeMap::new();
+        for (&s, &n) in floors {
+            if journal.section_len(s)? < n {
+                return Err(Error::Corruption(format!("section {s} is below its floor")));
+            }
+            boundaries.insert(
+                s,
+                if n == 0 {
+                    None
+                } else {
+                    Some(journal.get(s, n - 1).await?)
+                },
+            );
+        }
+        Ok(RecoveryPreflight { journal, boundaries })
+    }
+    pub async fn preflight_restore(_: E, _: Config, _: u64, _: u64) -> Result<RecoveryPreflight<E, I>, Error> {
+        unimplemented!("the archive goes back to no checkpoint")
+    }
+    pub async fn recoverable_prefix_len_at_most(&self, _: u64, _: u64, _: NonZeroUsize) -> Result<u64, Error> {
+        unimplemented!("the archive opens no part of a journal")
+    }
+    pub async fn replay(
+        self,
+        section: u64,
+        position: u64,
+        _: NonZeroUsize,
+        _: ReadOptions,
+    ) -> Result<Replay<E, I>, Error> {
+        let sections: Vec<u64> = self.sections().filter(|&s| s >= section).collect();
+        let first = if sections.first() == Some(&section) {
+            position
+        } else {
+            0
+        };
+        Ok(Replay {
+            journal: self,
+            sections,
+            at: (0, first),
+        })
+    }
+    pub fn sections(&self) -> impl Iterator<Item = u64> + '_ {
+        self.m.sections()
+    }
+    pub fn size(&self, section: u64) -> Result<u64, Error> {
+        self.m.size(section)
+    }
+    pub fn section_len(&self, section: u64) -> Result<u64, Error> {
+        Ok(self.m.size(section)? / I::SIZE as u64)
+    }
+    pub async fn get(&self, section: u64, position: u64) -> Result<I, Error> {
+        let w = self.m.get(section)?.ok_or(Error::SectionOutOfRange(section))?;
+        if position >= w.size() / I::SIZE as u64 {
+            return Err(Error::ItemOutOfRange(position));
+        }
+        let b = w.read_at(position * I::SIZE as u64, I::SIZE).await?;
+        I::decode_cfg(b.as_ref(), &()).map_err(Error::Codec)
+    }
+    pub async fn last(&self, section: u64) -> Result<Option<I>, Error> {
+        self.m.get(section)?.ok_or(Error::SectionOutOfRange(section))?;
+        match self.section_len(section)? {
+            0 => Ok(None),
+            n => self.get(section, n - 1).await.map(Some),
+        }
+    }
+    pub async fn append(mut self, section: u64, item: &I) -> Result<(Self, u64), Error> {
+        let w = self.m.take(section).await?;
+        let at = w.size();
+        let w = w.write_at(at, item.encode()).await?;
+        self.m.put(section, w);
+        Ok((self, at / I::SIZE as u64))
+    }
+    pub async fn truncate_pending_section(mut self, section: u64, size: u64) -> Result<Self, Error> {
+        self.m = self.m.truncate_pending_section(section, size).await?;
+        Ok(self)
+    }
+    pub async fn truncate_pending_tail(mut self, section: u64, size: u64) -> Result<Self, Error> {
+        self.m = self.m.truncate_pending(section, size).await?;
+        Ok(self)
+    }
+    pub async fn sync(mut self, s: impl crate::Sections) -> Result<Self, Error> {
+        self.m = self.m.sync(s).await?;
+        Ok(self)
+    }
+    pub async fn start_sync(mut self, s: impl crate::Sections) -> Result<(Self, Handle<()>), Error> {
+        let h;
+        (self.m, h) = self.m.start_sync(s).await?;
+        Ok((self, h))
+    }
+    pub async fn sync_all(self) -> Result<Self, Error> {
+        Ok(self)
+    }
+    pub async fn prune(mut self, min: u64) -> Result<(Self, bool), Error> {
+        let went;
+        (self.m, went) = self.m.prune(min).await?;
+        Ok((self, went))
+    }
+    pub fn pruned(&self, section: u64) -> bool {
+        self.m.pruned(section)
+    }
+    pub fn oldest_section(&self) -> Option<u64> {
+        self.m.oldest_section()
+    }
+    pub fn newest_section(&self) -> Option<u64> {
+        self.m.newest_section()
+    }
+    pub async fn destroy(self) -> Result<(), Error> {
+        self.m.destroy().await
+    }
+}
