@@ -72,7 +72,7 @@ impl Desk {
     }
 
     fn voyage(&mut self, words: &[&str]) -> Option<String> {
-        let &[kind, translator, _medium, slots, rows, bytes] = words else {
+        let &[kind, translator, medium, slots, rows, bytes] = words else {
             return None;
         };
         let limits = Limits {
@@ -81,10 +81,12 @@ impl Desk {
             bytes: number(bytes)?,
         };
         let translator = AnyTranslator::named(translator)?;
+        let (boxes, on_pages) = (kind == "box", medium == "pages");
         let start = Start {
-            boxes: kind == "box",
+            boxes,
             translator,
             limits,
+            on_pages,
             bare: self.bare,
         };
         if !limits.suit_a_journal() {
@@ -112,7 +114,8 @@ impl Desk {
         let disk = match &self.begun {
             Begun::Nothing => return None,
             Begun::Rows(disk) => disk,
-            Begun::Voyage(_, voyage) => voyage.disk(),
+            Begun::Voyage(start, voyage) if start.on_pages => voyage.disk(),
+            Begun::Voyage(..) => return None,
         };
         self.saved.insert(file?.into(), disk.copy());
         Some(open("saved: the bytes on disk differ"))
@@ -122,6 +125,7 @@ impl Desk {
         let Begun::Voyage(start, _) = self.begun else {
             return None;
         };
+        let start = Start { on_pages: true, ..start };
         let disk = self.saved.get(file?)?.copy();
         let sections = disk.sections().len();
         self.begun = Begun::Voyage(start, Original::voyage(start, disk));

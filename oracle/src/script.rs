@@ -26,6 +26,8 @@ pub struct Start {
     pub boxes: bool,
     pub translator: AnyTranslator,
     pub limits: Limits,
+    /// A voyage in memory has no bytes to save.
+    pub on_pages: bool,
     /// Without the refusals that the original does not know.
     pub bare: bool,
 }

@@ -1,0 +1,155 @@
+#!/usr/bin/env python3
+"""Runs scripts through `moves` and through the original, and compares the answers line by line.
+
+compare.py MOVES ORACLE [--calls N] [--seed S] [--short N]
+"""
+
+import argparse
+import collections
+import itertools
+import os
+import re
+import subprocess
+import sys
+import tempfile
+
+import scripts
+
+# How an answer compared.
+SAME, WORKED_OUT, OTHER_BEARER, LEFT_OUT, DIFFERS = "same", "worked out", "other bearer", "left out", "differs"
+
+
+class Pair:
+    """Both programs, in a folder of their own for what they save."""
+
+    def __init__(self, moves, oracle):
+        self.moves, self.oracle = os.path.abspath(moves), os.path.abspath(oracle)
+        self.folder = tempfile.TemporaryDirectory()
+        os.mkdir(os.path.join(self.folder.name, "out"))
+
+    def run(self, program, lines):
+        text = "".join(line + "\n" for line in lines).encode()
+        ran = subprocess.run([program], input=text, capture_output=True, cwd=self.folder.name)
+        answers = ran.stdout.decode().split("\n")[:-1]
+        if ran.returncode != 0:
+            answers.append(f"ended with {ran.returncode}")
+        return answers
+
+    def answers(self, lines):
+        """Line by line what both say. `moves` says one line more, at the end."""
+        ours, theirs = self.run(self.moves, lines), self.run(self.oracle, lines)
+        ours = ours[:-1] if ours and ours[-1].startswith("done: ") else ours
+        pairs = itertools.zip_longest(ours, theirs, fillvalue="no answer")
+        return list(pairs)
+
+
+def fits(ours, theirs):
+    """A star in a refusal stands for a part that the original does not tell."""
+    theirs = theirs.removeprefix("~ ")
+    if not theirs.startswith("refused "):
+        return ours == theirs
+    return re.fullmatch(re.escape(theirs).replace(r"\*", r"\d+"), ours) is not None
+
+
+def judge(ours, theirs):
+    if theirs.startswith("- "):
+        return LEFT_OUT
+    first, *others = theirs.split("\t")
+    if fits(ours, first):
+        return WORKED_OUT if first.startswith("~ ") else SAME
+    return OTHER_BEARER if any(fits(ours, other) for other in others) else DIFFERS
+
+
+def kind(answer):
+    words = answer.removeprefix("~ ").split(" ")
+    return " ".join(words[:2]) if words[0] == "refused" else words[0].rstrip(":")
+
+
+def signature(line, ours, theirs):
+    return line.split(" ")[0], kind(ours), kind(theirs)
+
+
+class Comparison:
+    def __init__(self, pair):
+        self.pair = pair
+        self.counts = collections.Counter()
+        self.found = {}
+
+    def compare(self, lines):
+        """Compares a script up to its first difference: what comes behind it may follow from it."""
+        pairs = self.pair.answers(lines)
+        for place, (ours, theirs) in enumerate(pairs):
+            line = lines[place] if place < len(lines) else ""
+            judged = judge(ours, theirs)
+            self.counts[line.split(" ")[0], kind(ours), judged] += 1
+            if judged == DIFFERS:
+                self.note(lines[: place + 1], ours, theirs)
+                return
+
+    def note(self, lines, ours, theirs):
+        found = signature(lines[-1], ours, theirs)
+        if found not in self.found:
+            small = self.smallest(lines, found)
+            self.found[found] = small, *self.pair.answers(small)[-1]
+
+    def still(self, lines, found):
+        pairs = self.pair.answers(lines)
+        return (len(pairs) == len(lines) and judge(*pairs[-1]) == DIFFERS
+                and signature(lines[-1], *pairs[-1]) == found)
+
+    def smallest(self, lines, found):
+        """Leaves lines out, first many at a time, as long as the last one still differs in the same way."""
+        step = len(lines) // 2
+        while step:
+            at = 0
+            while at < len(lines) - 1:
+                fewer = lines[:at] + lines[min(at + step, len(lines) - 1):]
+                if self.still(fewer, found):
+                    lines = fewer
+                else:
+                    at += step
+            step //= 2
+        return lines
+
+    def compared(self):
+        return sum(count for (*_, judged), count in self.counts.items() if judged != LEFT_OUT)
+
+    def report(self):
+        for (name, answer, judged), count in sorted(self.counts.items()):
+            print(f"{count:8} {name:10} {answer:12} {judged}")
+        of = collections.Counter()
+        for (*_, judged), count in self.counts.items():
+            of[judged] += count
+        print(f"{self.compared()} answers compared:", ", ".join(f"{of[how]} {how}" for how in
+              (SAME, WORKED_OUT, OTHER_BEARER, DIFFERS)), f"; {of[LEFT_OUT]} left out")
+        for lines, ours, theirs in self.found.values():
+            print("DIFFERENCE", *("    " + line[:200] for line in lines), sep="\n")
+            print(f"  moves:    {ours[:200]}\n  original: {theirs[:200]}")
+        print(f"{len(self.found)} kinds of difference")
+
+
+def main():
+    parser = argparse.ArgumentParser()
+    parser.add_argument("moves")
+    parser.add_argument("oracle")
+    parser.add_argument("--calls", type=int, default=20_000, help="answers to compare, at least")
+    parser.add_argument("--seed", type=int, default=1)
+    parser.add_argument("--short", type=int, default=3, help="every sequence of up to so many calls")
+    asked = parser.parse_args()
+    comparison = Comparison(Pair(asked.moves, asked.oracle))
+    short = scripts.short_scripts(asked.short)
+    while batch := list(itertools.islice(short, 100)):
+        comparison.compare([line for lines in batch for line in lines])
+    print(f"{comparison.compared()} answers of every sequence of up to {asked.short} calls")
+    goal = comparison.compared() + asked.calls
+    for seed in itertools.count(asked.seed):
+        if comparison.compared() >= goal:
+            break
+        comparison.compare(scripts.script(f"{seed}"))
+    print(f"seeds {asked.seed} to {seed - 1}")
+    comparison.report()
+    return 1 if comparison.found else 0
+
+
+if __name__ == "__main__":
+    sys.exit(main())
