@@ -19,6 +19,29 @@ import scripts
 SAME, WORKED_OUT, OTHER_BEARER, LEFT_OUT, DIFFERS = "same", "worked out", "other bearer", "left out", "differs"
 
 
+def damage(folder, line, voyage):
+    """Turns a bit of the check of a value in a saved file; docs/FORMATS.md says where it lies."""
+    _, name, start, position = line.split(" ")
+    slots, rows, size = (int(word) for word in voyage.split(" ")[4:])
+    row = 24 + (11 if voyage.startswith("voyage box") else 32)
+    page = 16 + rows * row
+    path = os.path.join(folder, name)
+    with open(path, "rb") as file:
+        held = bytearray(file.read())
+    for slot in range(slots):
+        header = held[slot * page:slot * page + 16]
+        kept = int.from_bytes(header[8:12], "big")
+        if int.from_bytes(header[:8], "big") == int(start) and int(position) < kept:
+            end = slot * page + 16 + (int(position) + 1) * row
+            offset, cost = held[end - 16:end - 8], held[end - 8:end - 4]
+            value = slots * page + slot * size + int.from_bytes(offset, "big")
+            held[value + int.from_bytes(cost, "big") - 1] ^= 1
+            with open(path, "wb") as file:
+                file.write(held)
+            return "damaged"
+    return "no such row"
+
+
 class Pair:
     """Both programs, in a folder of their own for what they save."""
 
@@ -27,7 +50,7 @@ class Pair:
         self.folder = tempfile.TemporaryDirectory()
         os.mkdir(os.path.join(self.folder.name, "out"))
 
-    def run(self, program, lines):
+    def once(self, program, lines):
         text = "".join(line + "\n" for line in lines).encode()
         ran = subprocess.run([program], input=text, capture_output=True, cwd=self.folder.name)
         answers = ran.stdout.decode().split("\n")[:-1]
@@ -35,11 +58,24 @@ class Pair:
             answers.append(f"ended with {ran.returncode}")
         return answers
 
+    def ours(self, lines):
+        """What `moves` says, without its last line. It has no line that spoils a file, so it ends before such a
+        line, and begins anew behind it with the voyage that was begun last."""
+        spoilt = next((at for at, line in enumerate(lines) if line.startswith("damage ")), len(lines))
+        answers = self.once(self.moves, lines[:spoilt])
+        if answers and answers[-1].startswith("done: "):
+            answers.pop()
+        if spoilt == len(lines):
+            return answers
+        before, behind = lines[:spoilt], lines[spoilt + 1:]
+        begun = [line for line in before if line.startswith("voyage ")][-1:]
+        first = begun or [line for line in behind if line.startswith("voyage ")]
+        answers.append(damage(self.folder.name, lines[spoilt], first[0]))
+        return answers + self.ours(begun + behind)[len(begun):]
+
     def answers(self, lines):
-        """Line by line what both say. `moves` says one line more, at the end."""
-        ours, theirs = self.run(self.moves, lines), self.run(self.oracle, lines)
-        ours = ours[:-1] if ours and ours[-1].startswith("done: ") else ours
-        pairs = itertools.zip_longest(ours, theirs, fillvalue="no answer")
+        """Line by line what both say."""
+        pairs = itertools.zip_longest(self.ours(lines), self.once(self.oracle, lines), fillvalue="no answer")
         return list(pairs)
 
 

@@ -204,10 +204,27 @@ def behind_the_back(scene):
     scene.calls(25)
 
 
+def damaged(scene):
+    """Values that go bad on disk, after a load that found them sound."""
+    scene.slots, scene.rows = 16, 128
+    voyage = scene.voyage_line(medium="pages")
+    scene.lines.append(voyage)
+    scene.load()
+    scene.calls(60)
+    # The original looks at values above what it knows to be sound, and cuts there. This load tells it.
+    scene.lines += ["save out/rows", "open out/rows", f"load {scene.size}", "save out/rows"]
+    for _ in range(scene.rng.randint(1, 12)):
+        start = scene.number() // scene.size * scene.size
+        scene.lines.append(f"damage out/rows {start} {scene.rng.choice([0, 0, 1, 2, 5])}")
+    scene.lines += [voyage, "open out/rows"]
+    scene.load()
+    scene.calls(60)
+
+
 def script(seed):
     scene = Scene(seed)
-    kinds = [sailed, behind_the_back, limits_refused, filled]
-    scene.rng.choices(kinds, [60, 25, 8, 3])[0](scene)
+    kinds = [sailed, behind_the_back, limits_refused, damaged, filled]
+    scene.rng.choices(kinds, [60, 20, 8, 15, 3])[0](scene)
     return scene.lines
 
 

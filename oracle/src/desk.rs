@@ -17,15 +17,16 @@ pub trait Voyage {
 
 enum Begun {
     Nothing,
-    /// Rows that are written behind the archive's back.
-    Rows(Disk),
+    /// Rows that are written behind the archive's back, and the width of their keys.
+    Rows(Disk, usize),
     Voyage(Start, Box<dyn Voyage>),
 }
 
 pub struct Desk {
     bare: bool,
     begun: Begun,
-    saved: HashMap<String, Disk>,
+    /// What was saved, and the width of its keys.
+    saved: HashMap<String, (Disk, usize)>,
 }
 
 impl Desk {
@@ -62,6 +63,7 @@ impl Desk {
             "append" => self.append(&words[1..], line),
             "save" => self.save(words.get(1).copied()),
             "open" => self.reopen(words.get(1).copied()),
+            "damage" => self.damage(&words[1..]),
             "handle" => handle(&words[1..]),
             name => match &mut self.begun {
                 Begun::Voyage(_, voyage) => voyage.answer(name, &words[1..], text),
@@ -97,13 +99,14 @@ impl Desk {
     }
 
     fn journal(&mut self, words: &[&str]) -> Option<String> {
-        self.begun = Begun::Rows(Disk::default());
+        let &[_medium, width, ..] = words else { return None };
+        self.begun = Begun::Rows(Disk::default(), number(width)? as usize);
         Some(ours("journal ready"))
     }
 
     // No limits are kept here: the journal's own calls are not what is compared.
     fn append(&mut self, words: &[&str], line: &str) -> Option<String> {
-        let Begun::Rows(disk) = &self.begun else { return None };
+        let Begun::Rows(disk, _) = &self.begun else { return None };
         let &[start, label, key, ..] = words else { return None };
         let text = line.splitn(5, ' ').nth(4).unwrap_or("");
         let position = disk.append(number(start)?, number(label)?, &from_hex(key)?, text.as_bytes());
@@ -111,13 +114,13 @@ impl Desk {
     }
 
     fn save(&mut self, file: Option<&str>) -> Option<String> {
-        let disk = match &self.begun {
+        let (disk, width) = match &self.begun {
             Begun::Nothing => return None,
-            Begun::Rows(disk) => disk,
-            Begun::Voyage(start, voyage) if start.on_pages => voyage.disk(),
+            Begun::Rows(disk, width) => (disk, *width),
+            Begun::Voyage(start, voyage) if start.on_pages => (voyage.disk(), if start.boxes { 11 } else { 32 }),
             Begun::Voyage(..) => return None,
         };
-        self.saved.insert(file?.into(), disk.copy());
+        self.saved.insert(file?.into(), (disk.copy(), width));
         Some(open("saved: the bytes on disk differ"))
     }
 
@@ -125,11 +128,24 @@ impl Desk {
         let Begun::Voyage(start, _) = self.begun else {
             return None;
         };
-        let start = Start { on_pages: true, ..start };
-        let disk = self.saved.get(file?)?.copy();
+        let start = Start {
+            on_pages: true,
+            ..start
+        };
+        let disk = self.saved.get(file?)?.0.copy();
         let sections = disk.sections().len();
         self.begun = Begun::Voyage(start, Original::voyage(start, disk));
         Some(ours(format!("opened {sections} sections")))
+    }
+}
+
+impl Desk {
+    // The comparison spoils the file of `moves` in the same place.
+    fn damage(&self, words: &[&str]) -> Option<String> {
+        let &[file, start, position] = words else { return None };
+        let (disk, width) = self.saved.get(file)?;
+        let there = disk.damage(number(start)?, number(position)? as usize, *width);
+        Some(ours(if there { "damaged" } else { "no such row" }))
     }
 }
 

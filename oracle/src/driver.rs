@@ -88,13 +88,8 @@ fn yes_or_no(yes: bool) -> String {
     if yes { "yes" } else { "no" }.into()
 }
 
-/// A value found, for a buffer of this many bytes.
-fn found(start: u64, number: u64, position: u64, value: &Value, room: u64) -> String {
-    let length = value.0.len() as u64;
-    if room < length {
-        return refused_by_us(15, 2, [start, position, length], "the buffer is too short");
-    }
-    format!("found {number} {position} {}", shown(&value.0))
+fn is_checksum(error: &Error) -> bool {
+    matches!(error, Error::Journal(crate::journal::Error::ChecksumMismatch(..)))
 }
 
 fn listed(count: usize, candidates: Option<usize>, places: &[(u64, u64)], room: u64) -> String {
@@ -143,46 +138,75 @@ impl<K: Array> Held<K> {
         Ok((borne, candidates))
     }
 
-    fn shown(&self, record: &Borne<K>, room: u64) -> Result<String, Error> {
+    /// A record for a buffer of this many bytes, with the value that was read of it.
+    fn shown(&self, record: &Borne<K>, value: Result<Value, Error>, room: u64) -> String {
+        let number = record.row.index;
+        let position = record.position;
+        let length = u64::from(record.row.value_location().1) - 4;
+        if room < length {
+            return refused_by_us(15, 2, [record.start, position, length], "the buffer is too short");
+        }
+        match value {
+            Ok(value) => format!("found {number} {position} {}", shown(&value.0)),
+            Err(error) => told(error),
+        }
+    }
+
+    fn value_of(&self, record: &Borne<K>) -> Result<Value, Error> {
         let (offset, size) = record.row.value_location();
-        let value = run(self.oversized.get_value(record.start, offset, size))?;
-        Ok(found(record.start, record.row.index, record.position, &value, room))
+        Ok(run(self.oversized.get_value(record.start, offset, size))?)
+    }
+
+    fn at(&self, number: u64, position: u64) -> Result<Borne<K>, Error> {
+        let start = self.section(number);
+        let row = run(self.oversized.get(start, position))?;
+        Ok(Borne { start, position, row })
     }
 
     /// The record that the original names, and behind it, parted by tabs, the others that bear the key.
     fn by_key(&self, key: &K, room: u64) -> Result<String, Error> {
-        if run(self.get(Identifier::Key(key)))?.is_none() {
+        let got = run(self.get(Identifier::Key(key))).transpose();
+        let Some((_, named)) = run(self.find(key))? else {
+            assert!(got.is_none(), "what was got is found");
             return Ok("absent".into());
-        }
-        let (_, named) = run(self.find(key))?.expect("what was got is found");
+        };
         let (mut borne, _) = self.bearers(key)?;
         borne.sort_by_key(|record| record.row != named);
-        let answers: Result<Vec<_>, _> = borne.iter().map(|record| self.shown(record, room)).collect();
-        Ok(answers?.join("\t"))
+        let first = self.shown(&borne[0], got.expect("what is found was got"), room);
+        let others = borne[1..]
+            .iter()
+            .map(|record| self.shown(record, self.value_of(record), room));
+        Ok(std::iter::once(first).chain(others).collect::<Vec<_>>().join("\t"))
     }
 
     fn by_number(&self, number: u64, room: u64) -> Result<String, Error> {
-        let Some(value) = run(self.get(Identifier::Index(number)))? else {
+        let Some(value) = run(self.get(Identifier::Index(number))).transpose() else {
             return Ok("absent".into());
         };
         let position = self.first_position(number).expect("what was got has a place");
-        Ok(found(self.section(number), number, position, &value, room))
+        Ok(self.shown(&self.at(number, position)?, value, room))
     }
 
     fn by_place(&self, number: u64, position: u64, room: u64) -> Result<String, Error> {
         if !self.iter_positions(number).any(|kept| kept == position) {
             return Ok(ours("absent"));
         }
-        let start = self.section(number);
-        let row = run(self.oversized.get(start, position))?;
-        let answer = self.shown(&Borne { start, position, row }, room)?;
+        let record = self.at(number, position)?;
+        let answer = self.shown(&record, self.value_of(&record), room);
         Ok(if answer.starts_with('~') { answer } else { ours(answer) })
     }
 
-    fn of_number(&self, number: u64, room: u64) -> Result<String, Error> {
-        let count = run(self.get_all(number))?.map_or(0, |values| values.len());
+    fn of_number(&self, number: u64, room: u64, bare: bool) -> Result<String, Error> {
         let places: Vec<_> = self.iter_positions(number).map(|position| (number, position)).collect();
-        Ok(listed(count, None, &places, room))
+        match run(self.get_all(number)) {
+            Ok(values) => Ok(listed(values.map_or(0, |values| values.len()), None, &places, room)),
+            // One damaged value, and the original lists none.
+            Err(error) if is_checksum(&error) && !bare => {
+                let answer = listed(places.len(), None, &places, room);
+                Ok(if answer.starts_with('~') { answer } else { ours(answer) })
+            }
+            Err(error) => Err(error),
+        }
     }
 
     fn of_key(&self, key: &K, room: u64) -> Result<String, Error> {
@@ -301,16 +325,9 @@ impl<K: Kind> Sailing<K> {
         Ok("synced".into())
     }
 
-    // Lines that `moves` does not have: they alter the disk, or write it.
+    // Lines that `moves` does not have.
     fn on_disk(&mut self, name: &str, words: &[&str]) -> Answered {
         let answer = match (name, words) {
-            ("damage", &[start, position]) => {
-                let position = number(position)? as usize;
-                match self.disk.damage(number(start)?, position, K::SIZE) {
-                    true => "damaged or mended".into(),
-                    false => "no such row".into(),
-                }
-            }
             ("fail_writes", &[]) => {
                 self.disk.0.fail_writes(true);
                 "writes fail".into()
@@ -352,7 +369,7 @@ impl<K: Kind> Sailing<K> {
             ("counts", 0) => Ok(archive.counted()),
             ("has", 1) => run(archive.has(Identifier::Index(first))).map(yes_or_no),
             ("get", 1..) => archive.by_number(first, room(&words[1..], 4_096)?),
-            ("list", 1..) => archive.of_number(first, room(&words[1..], 2_048)?),
+            ("list", 1..) => archive.of_number(first, room(&words[1..], 2_048)?, self.start.bare),
             ("value", 2..) => archive.by_place(first, number(words[1])?, room(&words[2..], 4_096)?),
             _ => return None,
         })
@@ -396,7 +413,7 @@ impl<K: Kind> Sailing<K> {
 impl<K: Kind> Voyage for Sailing<K> {
     fn answer(&mut self, name: &str, words: &[&str], text: &str) -> Option<String> {
         let answered = match name {
-            "damage" | "fail_writes" | "sync" => self.on_disk(name, words),
+            "fail_writes" | "sync" => self.on_disk(name, words),
             "has_key" | "get_key" | "list_key" => self.by_key(name, words),
             "put" | "put_multi" | "has_at" => self.by_both(name, words, text),
             _ => self.without_key(name, words),
