@@ -26,6 +26,8 @@ def damage(folder, line, voyage):
     row = 24 + (11 if voyage.startswith("voyage box") else 32)
     page = 16 + rows * row
     path = os.path.join(folder, name)
+    if not os.path.exists(path):
+        return "no such file"
     with open(path, "rb") as file:
         held = bytearray(file.read())
     for slot in range(slots):
@@ -70,11 +72,13 @@ class Pair:
         before, behind = lines[:spoilt], lines[spoilt + 1:]
         begun = [line for line in before if line.startswith("voyage ")][-1:]
         first = begun or [line for line in behind if line.startswith("voyage ")]
-        answers.append(damage(self.folder.name, lines[spoilt], first[0]))
+        answers.append(damage(self.folder.name, lines[spoilt], first[0]) if first else "no voyage")
         return answers + self.ours(begun + behind)[len(begun):]
 
     def answers(self, lines):
-        """Line by line what both say."""
+        """Line by line what both say, with no file from a script before."""
+        for name in os.listdir(os.path.join(self.folder.name, "out")):
+            os.remove(os.path.join(self.folder.name, "out", name))
         pairs = itertools.zip_longest(self.ours(lines), self.once(self.oracle, lines), fillvalue="no answer")
         return list(pairs)
 

@@ -46,6 +46,11 @@ DIFFERENCES = [
     Difference("what a load cut does not come back when the value is mended",
                [VOYAGE, "load 1", f"put 0 {K} aa", *SAVED, *SAVED], ["loaded 0"],
                [VOYAGE, "load 1", f"put 0 {K} aa", *SAVED, *SAVED, "get 0"], ["loaded 1", "found 0 0 length 2: aa"]),
+    Difference("whether a load cuts there hangs on earlier loads",
+               [VOYAGE, "load 1", f"put 0 {K} aa", "save out/rows", "open out/rows", "load 1", *SAVED, "get 0"],
+               ["loaded 1", "refused 7 layer 2 section * position * amount 0: the stored value is damaged"],
+               [VOYAGE, "load 1", f"put 0 {K} aa", *SAVED, "get 0"],
+               ["loaded 1", "refused 7 layer 2 section 0 position 0 amount 0: the stored value is damaged"]),
     Difference("a damaged value hides a row of another section",
                ["journal pages 32 16 128 4096", f"append 0 0 {K} aa", f"append 0 7 {K} bb", *SAVED],
                ["loaded 0"],
@@ -73,6 +78,10 @@ DIFFERENCES = [
                [VOYAGE, "load 65"], ["loaded 0"],
                [VOYAGE, "load 65"],
                ["refused 1 layer 3 section 0 position 0 amount 0: numbers a section outside 1 to 64"]),
+    Difference("which of several bearers a get by key names",
+               [VOYAGE, "load 10", f"put 1 {K} a", f"put 0 {K} b", f"get_key {K}"],
+               ["found 1 0 length 1: a\tfound 0 1 length 1: b"],
+               [VOYAGE, "load 10", f"put 1 {K} a", f"put 0 {K} b", f"get_key {K}"], ["found 0 1 length 1: b"]),
 ]
 
 

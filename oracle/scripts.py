@@ -152,19 +152,22 @@ def limits_refused(scene):
 
 
 def filled(scene):
-    """Every section filled to its rows or its bytes, or one row short of it."""
+    """Every section filled to its rows or its bytes, and one row and one section more."""
     scene.slots, scene.rows, scene.bytes = 16, 128, 4096
-    scene.lines.append(scene.voyage_line())
+    scene.lines.append(scene.voyage_line(medium="pages"))
     scene.load()
+    # 128 values of 28 bytes cost just what a section has.
     length = scene.rng.choice([28, 28, 29, 27])
-    for number in range(min(scene.size * 17, 400)):
-        for _ in range(scene.rng.choice([1, 128 // scene.size + 1])):
-            at = min(MOST, scene.base + number)
-            scene.lines.append(f"put_multi {at} {scene.rng.choice(scene.keys)} {'v' * length}")
-        scene.used = (scene.used + [at])[-200:]
-        if len(scene.lines) > 2300:
-            break
-    scene.calls(150)
+    first = scene.base // scene.size * scene.size
+    for section in range(17):
+        for row in range(129):
+            number = min(MOST, first + section * scene.size + row % scene.size)
+            scene.lines.append(f"put_multi {number} {scene.rng.choice(scene.keys)} {'v' * length}")
+            scene.used.append(number)
+    scene.used = scene.rng.sample(scene.used, 200)
+    scene.lines += ["counts", "save out/rows", "open out/rows"]
+    scene.load()
+    scene.calls(200)
 
 
 def sailed(scene):
@@ -224,7 +227,7 @@ def damaged(scene):
 def script(seed):
     scene = Scene(seed)
     kinds = [sailed, behind_the_back, limits_refused, damaged, filled]
-    scene.rng.choices(kinds, [60, 20, 8, 15, 3])[0](scene)
+    scene.rng.choices(kinds, [60, 20, 8, 15, 1])[0](scene)
     return scene.lines
 
 

@@ -97,24 +97,32 @@ pub mod telemetry {
 
 /// Shared bytes, and the part of them that is meant.
 #[derive(Clone, Default, Debug)]
-pub struct IoBuf(std::sync::Arc<Vec<u8>>, usize, usize);
+pub struct IoBuf {
+    bytes: std::sync::Arc<Vec<u8>>,
+    from: usize,
+    to: usize,
+}
 impl IoBuf {
     pub fn len(&self) -> usize {
-        self.2 - self.1
+        self.to - self.from
     }
-    pub fn slice(&self, r: impl std::ops::RangeBounds<usize>) -> Self {
+    pub fn slice(&self, range: impl std::ops::RangeBounds<usize>) -> Self {
         use std::ops::Bound::*;
-        let a = match r.start_bound() {
-            Included(&a) => a,
-            Excluded(&a) => a + 1,
+        let from = match range.start_bound() {
+            Included(&from) => from,
+            Excluded(&before) => before + 1,
             Unbounded => 0,
         };
-        let b = match r.end_bound() {
-            Included(&b) => b + 1,
-            Excluded(&b) => b,
+        let to = match range.end_bound() {
+            Included(&last) => last + 1,
+            Excluded(&to) => to,
             Unbounded => self.len(),
         };
-        Self(self.0.clone(), self.1 + a, self.1 + b)
+        Self {
+            bytes: self.bytes.clone(),
+            from: self.from + from,
+            to: self.from + to,
+        }
     }
     pub fn coalesce(self) -> Self {
         self
@@ -122,13 +130,17 @@ impl IoBuf {
 }
 impl AsRef<[u8]> for IoBuf {
     fn as_ref(&self) -> &[u8] {
-        &self.0[self.1..self.2]
+        &self.bytes[self.from..self.to]
     }
 }
 impl From<Vec<u8>> for IoBuf {
-    fn from(v: Vec<u8>) -> Self {
-        let n = v.len();
-        Self(std::sync::Arc::new(v), 0, n)
+    fn from(bytes: Vec<u8>) -> Self {
+        let to = bytes.len();
+        Self {
+            bytes: bytes.into(),
+            from: 0,
+            to,
+        }
     }
 }
 #[derive(Default)]
@@ -223,46 +235,49 @@ pub mod memory {
         },
     };
     #[derive(Clone, Default)]
-    pub struct MemBlob(pub Arc<Mutex<Vec<u8>>>, pub Arc<AtomicBool>);
+    pub struct MemBlob {
+        held: Arc<Mutex<Vec<u8>>>,
+        fails: Arc<AtomicBool>,
+    }
     impl MemBlob {
         pub fn len(&self) -> usize {
-            self.0.lock().unwrap().len()
+            self.held.lock().unwrap().len()
         }
         pub fn bytes(&self) -> Vec<u8> {
-            self.0.lock().unwrap().clone()
+            self.held.lock().unwrap().clone()
         }
         pub fn extend(&self, bytes: &[u8]) {
-            self.0.lock().unwrap().extend_from_slice(bytes)
+            self.held.lock().unwrap().extend_from_slice(bytes)
         }
         /// Turns a bit of the byte at a place.
         pub fn turn(&self, place: usize) {
-            self.0.lock().unwrap()[place] ^= 1
+            self.held.lock().unwrap()[place] ^= 1
         }
     }
     impl Blob for MemBlob {
         async fn read_at(&self, offset: u64, len: usize, _: ReadOptions) -> Result<IoBufMut, Error> {
             let end = offset.checked_add(len as u64).ok_or(Error::OffsetOverflow)?;
-            let b = self.0.lock().unwrap();
-            if end > b.len() as u64 {
+            let held = self.held.lock().unwrap();
+            if end > held.len() as u64 {
                 return Err(Error::BlobInsufficientLength);
             }
-            Ok(b[offset as usize..end as usize].to_vec().into())
+            Ok(held[offset as usize..end as usize].to_vec().into())
         }
         async fn write_at(&self, offset: u64, data: impl Into<IoBuf> + Send, _: WriteOptions) -> Result<(), Error> {
-            if self.1.load(Relaxed) {
+            if self.fails.load(Relaxed) {
                 return Err(Error::WriteFailed);
             }
             let data = data.into();
-            let mut b = self.0.lock().unwrap();
+            let mut held = self.held.lock().unwrap();
             let end = offset as usize + data.len();
-            if b.len() < end {
-                b.resize(end, 0);
+            if held.len() < end {
+                held.resize(end, 0);
             }
-            b[offset as usize..end].copy_from_slice(data.as_ref());
+            held[offset as usize..end].copy_from_slice(data.as_ref());
             Ok(())
         }
         async fn resize(&self, len: u64) -> Result<(), Error> {
-            self.0.lock().unwrap().resize(len as usize, 0);
+            self.held.lock().unwrap().resize(len as usize, 0);
             Ok(())
         }
         async fn sync(&self) -> Result<(), Error> {
@@ -273,13 +288,16 @@ pub mod memory {
         }
     }
     #[derive(Clone, Default)]
-    pub struct Mem(Arc<Mutex<Partitions>>, Arc<AtomicBool>);
+    pub struct Mem {
+        partitions: Arc<Mutex<Partitions>>,
+        fails: Arc<AtomicBool>,
+    }
     type Partitions = BTreeMap<String, BTreeMap<Vec<u8>, MemBlob>>;
     impl Mem {
         /// The same bytes on a disk of their own.
         pub fn copy(&self) -> Self {
             let copy = Self::default();
-            for (partition, blobs) in self.0.lock().unwrap().iter() {
+            for (partition, blobs) in self.partitions.lock().unwrap().iter() {
                 for (name, blob) in blobs {
                     copy.blob(partition, name).extend(&blob.bytes());
                 }
@@ -288,12 +306,15 @@ pub mod memory {
         }
         /// From here on every write fails, or none.
         pub fn fail_writes(&self, fail: bool) {
-            self.1.store(fail, Relaxed)
+            self.fails.store(fail, Relaxed)
         }
         fn blob(&self, partition: &str, name: &[u8]) -> MemBlob {
-            let mut partitions = self.0.lock().unwrap();
+            let mut partitions = self.partitions.lock().unwrap();
             let blobs = partitions.entry(partition.into()).or_default();
-            let new = || MemBlob(Default::default(), self.1.clone());
+            let new = || MemBlob {
+                held: Default::default(),
+                fails: self.fails.clone(),
+            };
             blobs.entry(name.into()).or_insert_with(new).clone()
         }
     }
@@ -305,23 +326,25 @@ pub mod memory {
             Ok((blob, length))
         }
         async fn remove(&self, partition: &str, name: Option<&[u8]>) -> Result<(), Error> {
-            let mut m = self.0.lock().unwrap();
+            let mut partitions = self.partitions.lock().unwrap();
             let Some(name) = name else {
-                return m
+                return partitions
                     .remove(partition)
                     .map(|_| ())
                     .ok_or(Error::PartitionMissing(partition.into()));
             };
-            let p = m.get_mut(partition).ok_or(Error::PartitionMissing(partition.into()))?;
-            p.remove(name).map(|_| ()).ok_or(Error::BlobMissing(partition.into()))
+            let blobs = partitions
+                .get_mut(partition)
+                .ok_or(Error::PartitionMissing(partition.into()))?;
+            blobs
+                .remove(name)
+                .map(|_| ())
+                .ok_or(Error::BlobMissing(partition.into()))
         }
         async fn scan(&self, partition: &str) -> Result<Vec<Vec<u8>>, Error> {
-            Ok(self
-                .0
-                .lock()
-                .unwrap()
-                .get(partition)
-                .map_or(vec![], |p| p.keys().cloned().collect()))
+            let partitions = self.partitions.lock().unwrap();
+            let blobs = partitions.get(partition);
+            Ok(blobs.map_or(vec![], |blobs| blobs.keys().cloned().collect()))
         }
     }
 }

@@ -10,7 +10,7 @@ pub struct Config {
     pub write_buffer: NonZeroUsize,
 }
 pub struct Journal<E: Context, I> {
-    m: Manager<E, WriteFactory>,
+    manager: Manager<E, WriteFactory>,
     _p: PhantomData<fn(I)>,
 }
 pub struct RecoveryPreflight<E: Context, I> {
@@ -63,7 +63,7 @@ impl<E: Context, I: CodecFixedShared> Journal<E, I> {
             },
         };
         Ok(Self {
-            m: Manager::init_bounded(context, cfg, ceiling).await?,
+            manager: Manager::init_bounded(context, cfg, ceiling).await?,
             _p: PhantomData,
         })
     }
@@ -116,16 +116,16 @@ impl<E: Context, I: CodecFixedShared> Journal<E, I> {
         })
     }
     pub fn sections(&self) -> impl Iterator<Item = u64> + '_ {
-        self.m.sections()
+        self.manager.sections()
     }
     pub fn size(&self, section: u64) -> Result<u64, Error> {
-        self.m.size(section)
+        self.manager.size(section)
     }
     pub fn section_len(&self, section: u64) -> Result<u64, Error> {
-        Ok(self.m.size(section)? / I::SIZE as u64)
+        Ok(self.manager.size(section)? / I::SIZE as u64)
     }
     pub async fn get(&self, section: u64, position: u64) -> Result<I, Error> {
-        let w = self.m.get(section)?.ok_or(Error::SectionOutOfRange(section))?;
+        let w = self.manager.get(section)?.ok_or(Error::SectionOutOfRange(section))?;
         if position >= w.size() / I::SIZE as u64 {
             return Err(Error::ItemOutOfRange(position));
         }
@@ -133,34 +133,34 @@ impl<E: Context, I: CodecFixedShared> Journal<E, I> {
         I::decode_cfg(b.as_ref(), &()).map_err(Error::Codec)
     }
     pub async fn last(&self, section: u64) -> Result<Option<I>, Error> {
-        self.m.get(section)?.ok_or(Error::SectionOutOfRange(section))?;
+        self.manager.get(section)?.ok_or(Error::SectionOutOfRange(section))?;
         match self.section_len(section)? {
             0 => Ok(None),
             n => self.get(section, n - 1).await.map(Some),
         }
     }
     pub async fn append(mut self, section: u64, item: &I) -> Result<(Self, u64), Error> {
-        let w = self.m.take(section).await?;
+        let w = self.manager.take(section).await?;
         let at = w.size();
         let w = w.write_at(at, item.encode()).await?;
-        self.m.put(section, w);
+        self.manager.put(section, w);
         Ok((self, at / I::SIZE as u64))
     }
     pub async fn truncate_pending_section(mut self, section: u64, size: u64) -> Result<Self, Error> {
-        self.m = self.m.truncate_pending_section(section, size).await?;
+        self.manager = self.manager.truncate_pending_section(section, size).await?;
         Ok(self)
     }
     pub async fn truncate_pending_tail(mut self, section: u64, size: u64) -> Result<Self, Error> {
-        self.m = self.m.truncate_pending(section, size).await?;
+        self.manager = self.manager.truncate_pending(section, size).await?;
         Ok(self)
     }
     pub async fn sync(mut self, s: impl crate::Sections) -> Result<Self, Error> {
-        self.m = self.m.sync(s).await?;
+        self.manager = self.manager.sync(s).await?;
         Ok(self)
     }
     pub async fn start_sync(mut self, s: impl crate::Sections) -> Result<(Self, Handle<()>), Error> {
         let h;
-        (self.m, h) = self.m.start_sync(s).await?;
+        (self.manager, h) = self.manager.start_sync(s).await?;
         Ok((self, h))
     }
     pub async fn sync_all(self) -> Result<Self, Error> {
@@ -168,19 +168,19 @@ impl<E: Context, I: CodecFixedShared> Journal<E, I> {
     }
     pub async fn prune(mut self, min: u64) -> Result<(Self, bool), Error> {
         let went;
-        (self.m, went) = self.m.prune(min).await?;
+        (self.manager, went) = self.manager.prune(min).await?;
         Ok((self, went))
     }
     pub fn pruned(&self, section: u64) -> bool {
-        self.m.pruned(section)
+        self.manager.pruned(section)
     }
     pub fn oldest_section(&self) -> Option<u64> {
-        self.m.oldest_section()
+        self.manager.oldest_section()
     }
     pub fn newest_section(&self) -> Option<u64> {
-        self.m.newest_section()
+        self.manager.newest_section()
     }
     pub async fn destroy(self) -> Result<(), Error> {
-        self.m.destroy().await
+        self.manager.destroy().await
     }
 }
