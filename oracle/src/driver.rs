@@ -121,23 +121,10 @@ impl<K: Kind> Sailing<K> {
         Ok(answer)
     }
 
-    fn sync(&mut self) -> Result<String, Error> {
-        let archive = self.archive.take().expect("loaded");
-        self.archive = Some(run(archive.sync())?);
-        Ok("synced".into())
-    }
-
-    // Lines that `moves` does not have.
-    fn on_disk(&mut self, name: &str, words: &[&str]) -> Answered {
-        let answer = match (name, words) {
-            ("fail_writes", &[]) => {
-                self.disk.0.fail_writes(true);
-                "writes fail".into()
-            }
-            ("sync", &[]) if self.archive.is_some() => return Some(self.sync()),
-            _ => return None,
-        };
-        Some(Ok(answer))
+    // From here on the disk writes nothing; `moves` has no such line.
+    fn fail_writes(&mut self) -> Answered {
+        self.disk.0.fail_writes();
+        Some(Ok("writes fail".into()))
     }
 
     /// The key that a word stands for, or its refusal.
@@ -215,7 +202,7 @@ impl<K: Kind> Sailing<K> {
 impl<K: Kind> Voyage for Sailing<K> {
     fn answer(&mut self, name: &str, words: &[&str], text: &str) -> Option<String> {
         let answered = match name {
-            "fail_writes" | "sync" => self.on_disk(name, words),
+            "fail_writes" => self.fail_writes(),
             "has_key" | "get_key" | "list_key" => self.by_key(name, words),
             "put" | "put_multi" | "has_at" => self.by_both(name, words, text),
             _ => self.without_key(name, words),

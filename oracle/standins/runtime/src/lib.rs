@@ -304,9 +304,9 @@ pub mod memory {
             }
             copy
         }
-        /// From here on every write fails, or none.
-        pub fn fail_writes(&self, fail: bool) {
-            self.fails.store(fail, Relaxed)
+        /// From here on every write fails.
+        pub fn fail_writes(&self) {
+            self.fails.store(true, Relaxed)
         }
         fn blob(&self, partition: &str, name: &[u8]) -> MemBlob {
             let mut partitions = self.partitions.lock().unwrap();
