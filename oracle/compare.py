@@ -19,9 +19,16 @@ import scripts
 SAME, WORKED_OUT, OTHER_BEARER, LEFT_OUT, DIFFERS = "same", "worked out", "other bearer", "left out", "differs"
 
 
-def damage(folder, line, voyage):
-    """Turns a bit of the check of a value in a saved file; docs/FORMATS.md says where it lies."""
-    _, name, start, position = line.split(" ")
+def fnv32(held):
+    check = 2166136261
+    for byte in held:
+        check = (check ^ byte) * 16777619 % 2**32
+    return check
+
+
+def spoil(folder, line, voyage):
+    """Turns a bit in a saved file, of the check of a value or of a key; docs/FORMATS.md says where these lie."""
+    what, name, start, position = line.split(" ")
     slots, rows, size = (int(word) for word in voyage.split(" ")[4:])
     row = 24 + (11 if voyage.startswith("voyage box") else 32)
     page = 16 + rows * row
@@ -35,12 +42,16 @@ def damage(folder, line, voyage):
         kept = int.from_bytes(header[8:12], "big")
         if int.from_bytes(header[:8], "big") == int(start) and int(position) < kept:
             end = slot * page + 16 + (int(position) + 1) * row
-            offset, cost = held[end - 16:end - 8], held[end - 8:end - 4]
-            value = slots * page + slot * size + int.from_bytes(offset, "big")
-            held[value + int.from_bytes(cost, "big") - 1] ^= 1
+            if what == "damage":
+                offset, cost = held[end - 16:end - 8], held[end - 8:end - 4]
+                value = slots * page + slot * size + int.from_bytes(offset, "big")
+                held[value + int.from_bytes(cost, "big") - 1] ^= 1
+            else:
+                held[end - 17] ^= 1
+                held[end - 4:end] = fnv32(held[end - row:end - 4]).to_bytes(4, "big")
             with open(path, "wb") as file:
                 file.write(held)
-            return "damaged"
+            return "spoilt"
     return "no such row"
 
 
@@ -63,7 +74,8 @@ class Pair:
     def ours(self, lines):
         """What `moves` says, without its last line. It has no line that spoils a file, so it ends before such a
         line, and begins anew behind it with the voyage that was begun last."""
-        spoilt = next((at for at, line in enumerate(lines) if line.startswith("damage ")), len(lines))
+        spoiling = (at for at, line in enumerate(lines) if line.startswith(("damage ", "alter_key ")))
+        spoilt = next(spoiling, len(lines))
         answers = self.once(self.moves, lines[:spoilt])
         if answers and answers[-1].startswith("done: "):
             answers.pop()
@@ -72,7 +84,7 @@ class Pair:
         before, behind = lines[:spoilt], lines[spoilt + 1:]
         begun = [line for line in before if line.startswith("voyage ")][-1:]
         first = begun or [line for line in behind if line.startswith("voyage ")]
-        answers.append(damage(self.folder.name, lines[spoilt], first[0]) if first else "no voyage")
+        answers.append(spoil(self.folder.name, lines[spoilt], first[0]) if first else "no voyage")
         return answers + self.ours(begun + behind)[len(begun):]
 
     def answers(self, lines):

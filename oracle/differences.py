@@ -12,6 +12,7 @@ from compare import Pair
 
 K, K2 = "1".rjust(64, "0"), "2".rjust(64, "0")
 MOST = 2**64 - 1
+BOXES = "voyage box leading4 pages 16 128 4096"
 VOYAGE = "voyage digest leading4 pages 16 128 4096"
 SAVED = ["save out/rows", "damage out/rows 0 0", VOYAGE, "open out/rows", "load 1"]
 
@@ -64,6 +65,13 @@ DIFFERENCES = [
                ["loaded 0"],
                ["journal pages 32 16 128 4096", f"append 0 0 {K} aa", f"append 0 7 {K} bb", *SAVED],
                ["refused 8 layer 3 section 0 position 1 amount 0: a row's move number is another section's"]),
+    Difference("a key that went bad is met before a row of another section",
+               [BOXES, "load 1", "put 1 AAAU0000007 a", "put 4 AAAU0000007 b", "save out/rows", "open out/rows", "load 1",
+                "save out/rows", "alter_key out/rows 4 0", "open out/rows", "load 2"],
+               ["refused 6 layer 1 section * position * amount 0: a stored row is wrong"],
+               [BOXES, "load 1", "put 1 AAAU0000007 a", "put 4 AAAU0000007 b", "save out/rows", "alter_key out/rows 4 0",
+                BOXES, "open out/rows", "load 2"],
+               ["refused 8 layer 3 section 1 position 0 amount 0: a row's move number is another section's"]),
     Difference("a far number ends the program after its row was written",
                [VOYAGE, f"load {MOST}", f"put {2**62} {K} aa", "save out/rows", "open out/rows", f"load {MOST}"],
                ["panic: capacity overflow", "- saved: the bytes on disk differ", "~ opened 1 sections",

@@ -63,7 +63,8 @@ impl Desk {
             "append" => self.append(&words[1..], line),
             "save" => self.save(words.get(1).copied()),
             "open" => self.reopen(words.get(1).copied()),
-            "damage" => self.damage(&words[1..]),
+            "damage" => self.spoil(&words[1..], Disk::damage),
+            "alter_key" => self.spoil(&words[1..], Disk::alter_key),
             "handle" => handle(&words[1..]),
             name => match &mut self.begun {
                 Begun::Voyage(_, voyage) => voyage.answer(name, &words[1..], text),
@@ -141,11 +142,11 @@ impl Desk {
 
 impl Desk {
     // The comparison spoils the file of `moves` in the same place.
-    fn damage(&self, words: &[&str]) -> Option<String> {
+    fn spoil(&self, words: &[&str], how: fn(&Disk, u64, usize, usize) -> Option<()>) -> Option<String> {
         let &[file, start, position] = words else { return None };
         let (disk, width) = self.saved.get(file)?;
-        let there = disk.damage(number(start)?, number(position)? as usize, *width);
-        Some(ours(if there { "damaged" } else { "no such row" }))
+        let spoilt = how(disk, number(start)?, number(position)? as usize, *width);
+        Some(ours(spoilt.map_or("no such row", |()| "spoilt")))
     }
 }
 

@@ -70,19 +70,30 @@ impl Disk {
         position
     }
 
-    /// Turns one bit of the check of a value; a second time turns it back.
-    pub fn damage(&self, start: u64, position: usize, width: usize) -> bool {
-        if !self.sections().contains(&start) {
-            return false;
-        }
+    /// The bytes of a row, and where they begin.
+    fn row(&self, start: u64, position: usize, width: usize) -> Option<(usize, Vec<u8>)> {
+        self.sections().contains(&start).then_some(())?;
+        let length = ROW_WITHOUT_KEY + width;
         let rows = self.blob(KEYS, start).bytes();
-        let Some(row) = rows.chunks(ROW_WITHOUT_KEY + width).nth(position) else {
-            return false;
-        };
+        rows.chunks_exact(length)
+            .nth(position)
+            .map(|row| (position * length, row.to_vec()))
+    }
+
+    /// Turns one bit of the check of a value; a second time turns it back.
+    pub fn damage(&self, start: u64, position: usize, width: usize) -> Option<()> {
+        let (_, row) = self.row(start, position, width)?;
         let offset = u64::from_be_bytes(row[8 + width..16 + width].try_into().unwrap());
         let size = u32::from_be_bytes(row[16 + width..].try_into().unwrap());
         self.blob(VALUES, start).turn(offset as usize + size as usize - 1);
-        true
+        Some(())
+    }
+
+    /// Turns one bit of a key, in its last byte.
+    pub fn alter_key(&self, start: u64, position: usize, width: usize) -> Option<()> {
+        let (at, _) = self.row(start, position, width)?;
+        self.blob(KEYS, start).turn(at + 8 + width - 1);
+        Some(())
     }
 }
 
