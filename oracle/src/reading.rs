@@ -70,12 +70,12 @@ fn listed(count: usize, candidates: Option<usize>, places: &[(u64, u64)], room: 
 impl<K: Array> Held<K> {
     /// The records that bear the key, and how many candidates for it there are.
     pub(super) fn bearers(&self, key: &K) -> Result<(Vec<Borne<K>>, usize), Error> {
-        let translated = self.translator.transform(key.as_ref());
+        let wanted = self.translator.transform(key.as_ref());
         let (mut borne, mut candidates) = (Vec::new(), 0);
-        for handle in self.keys.get(self.translator.hash_one(translated)) {
+        for handle in self.keys.get(self.translator.hash_one(wanted)) {
             let (slot, position) = unpack(handle);
             let section = self.sections.slot(slot);
-            if section.keys[position as usize] != translated {
+            if section.keys[position as usize] != wanted {
                 continue;
             }
             candidates += 1;

@@ -37,34 +37,37 @@ pub mod frame {
 }
 pub mod durability {
     use futures::FutureExt as _;
+
     /// How far a section is known to be on disk.
     pub struct Barrier {
-        floor: u64,
+        known: u64,
         waiting: Vec<(u64, crate::SyncCompletion)>,
     }
+
     impl Barrier {
-        pub fn new(floor: u64) -> Self {
+        pub fn new(known: u64) -> Self {
             Self {
-                floor,
+                known,
                 waiting: Vec::new(),
             }
         }
-        pub fn record(&mut self, length: u64, c: crate::SyncCompletion) {
-            self.waiting.push((length, c));
+
+        pub fn record(&mut self, length: u64, completion: crate::SyncCompletion) {
+            self.waiting.push((length, completion));
         }
+
         pub fn boundary(&mut self) -> u64 {
-            let floor = &mut self.floor;
-            self.waiting.retain_mut(|(n, c)| match c.now_or_never() {
-                None => true,
-                Some(r) => {
-                    if r.is_ok() {
-                        *floor = (*floor).max(*n);
-                    }
-                    false
+            let known = &mut self.known;
+            self.waiting.retain_mut(|(length, completion)| {
+                let done = completion.now_or_never();
+                if let Some(Ok(())) = done {
+                    *known = (*known).max(*length);
                 }
+                done.is_none()
             });
-            self.floor
+            self.known
         }
+
         pub fn settled(&mut self) -> bool {
             self.boundary();
             self.waiting.is_empty()

@@ -12,91 +12,112 @@ pub mod handles {
     //! Handles by hash: one flat row of slots, each with a handle and half of its hash. The next slot is tried where
     //! one is taken, and a removal closes the gap behind it. In which order the handles of a hash come is this
     //! table's own affair, and no evidence about the original's.
-    const EMPTY: u64 = u64::MAX;
+
+    use std::marker::PhantomData;
+
+    #[derive(Clone, Copy, PartialEq, Eq)]
+    struct Slot {
+        handle: u64,
+        half: u32,
+    }
+
+    // No handle has all its bits set, as no section has so many records.
+    const FREE: Slot = Slot {
+        handle: u64::MAX,
+        half: 0,
+    };
+
     pub struct Table<H> {
-        slots: Vec<(u64, u32)>,
+        slots: Vec<Slot>,
         len: usize,
-        _h: std::marker::PhantomData<H>,
+        kind: PhantomData<H>,
     }
-    /// Hashes may be small numbers, so they are mixed first. A handle belongs into the slot that the low bits name.
-    fn print(h: u64) -> u32 {
-        ((h ^ (h >> 32)).wrapping_mul(0x9E37_79B9_7F4A_7C15) >> 32) as u32
+
+    /// Half of a hash. Hashes may be small numbers, so they are mixed first. A handle belongs into the slot that the
+    /// low bits of the half name.
+    fn half(hash: u64) -> u32 {
+        ((hash ^ (hash >> 32)).wrapping_mul(0x9E37_79B9_7F4A_7C15) >> 32) as u32
     }
+
     impl Table<u64> {
-        pub fn with_capacity(n: usize) -> Self {
-            let slots = if n == 0 { 0 } else { (n * 4 / 3 + 1).next_power_of_two() };
+        pub fn with_capacity(handles: usize) -> Self {
+            let slots = match handles {
+                0 => 0,
+                _ => (handles * 4 / 3 + 1).next_power_of_two(),
+            };
             Self {
-                slots: vec![(EMPTY, 0); slots],
+                slots: vec![FREE; slots],
                 len: 0,
-                _h: std::marker::PhantomData,
+                kind: PhantomData,
             }
         }
+
         pub const fn len(&self) -> usize {
             self.len
         }
+
         pub const fn is_empty(&self) -> bool {
             self.len == 0
         }
-        fn place(&mut self, print: u32, handle: u64) {
-            let mask = self.slots.len() - 1;
-            let mut i = print as usize & mask;
-            while self.slots[i].0 != EMPTY {
-                i = (i + 1) & mask;
-            }
-            self.slots[i] = (handle, print);
+
+        /// The slots from the one of a half on, around, up to the first that is free.
+        fn chain(&self, half: u32) -> impl Iterator<Item = usize> + '_ {
+            let count = self.slots.len();
+            let around = (0..count).map(move |step| (half as usize + step) & (count - 1));
+            around.take_while(|&at| self.slots[at] != FREE)
         }
+
+        fn place(&mut self, slot: Slot) {
+            let mask = self.slots.len() - 1;
+            let mut at = slot.half as usize & mask;
+            while self.slots[at] != FREE {
+                at = (at + 1) & mask;
+            }
+            self.slots[at] = slot;
+        }
+
         pub fn insert(&mut self, hash: u64, handle: u64, mut rehash: impl FnMut(u64) -> u64) {
-            assert!(handle != EMPTY);
+            assert!(handle != FREE.handle);
             if (self.len + 1) * 4 > self.slots.len() * 3 {
-                let n = (self.slots.len() * 2).max(4);
-                for (h, p) in std::mem::replace(&mut self.slots, vec![(EMPTY, 0); n]) {
-                    if h != EMPTY {
-                        assert_eq!(print(rehash(h)), p, "rehash must give the hash inserted");
-                        self.place(p, h);
+                let more = vec![FREE; (self.slots.len() * 2).max(4)];
+                for slot in std::mem::replace(&mut self.slots, more) {
+                    if slot != FREE {
+                        // The original is asked anew, so that a hash which it tells otherwise comes to light.
+                        assert_eq!(half(rehash(slot.handle)), slot.half, "a handle keeps its hash");
+                        self.place(slot);
                     }
                 }
             }
-            self.place(print(hash), handle);
+            let half = half(hash);
+            self.place(Slot { handle, half });
             self.len += 1;
         }
+
         /// Handles that may have been stored under the hash, in the order of their slots.
         pub fn get(&self, hash: u64) -> impl Iterator<Item = u64> + '_ {
-            let (p, n) = (print(hash), self.slots.len());
-            let mut i = if n == 0 { 0 } else { p as usize & (n - 1) };
-            std::iter::from_fn(move || {
-                while n != 0 && self.slots[i].0 != EMPTY {
-                    let at = self.slots[i];
-                    i = (i + 1) & (n - 1);
-                    if at.1 == p {
-                        return Some(at.0);
-                    }
-                }
-                None
-            })
+            let half = half(hash);
+            let stored = self.chain(half).map(|at| self.slots[at]);
+            stored.filter(move |slot| slot.half == half).map(|slot| slot.handle)
         }
+
         pub fn remove(&mut self, hash: u64, handle: u64) -> bool {
-            let (p, n) = (print(hash), self.slots.len());
-            if n == 0 {
+            let half = half(hash);
+            let wanted = Slot { handle, half };
+            let Some(mut gap) = self.chain(half).find(|&at| self.slots[at] == wanted) else {
                 return false;
-            }
-            let mask = n - 1;
-            let mut hole = p as usize & mask;
-            while self.slots[hole] != (handle, p) {
-                if self.slots[hole].0 == EMPTY {
-                    return false;
+            };
+            let mask = self.slots.len() - 1;
+            let mut at = (gap + 1) & mask;
+            while self.slots[at] != FREE {
+                let home = self.slots[at].half as usize & mask;
+                // It may move into the gap if that is no further from its home than where it is.
+                if (at.wrapping_sub(home) & mask) >= (at.wrapping_sub(gap) & mask) {
+                    self.slots[gap] = self.slots[at];
+                    gap = at;
                 }
-                hole = (hole + 1) & mask;
+                at = (at + 1) & mask;
             }
-            let mut j = (hole + 1) & mask;
-            while self.slots[j].0 != EMPTY {
-                let home = self.slots[j].1 as usize & mask;
-                if (j.wrapping_sub(home) & mask) >= (j.wrapping_sub(hole) & mask) {
-                    self.slots[hole] = self.slots[j];
-                    hole = j;
-                }
-                j = (j + 1) & mask;
-            }
-            self.slots[hole] = (EMPTY, 0);
+            self.slots[gap] = FREE;
             self.len -= 1;
             true
         }

@@ -11,7 +11,7 @@ pub struct Config {
 }
 pub struct Journal<E: Context, I> {
     manager: Manager<E, WriteFactory>,
-    _p: PhantomData<fn(I)>,
+    rows: PhantomData<fn(I)>,
 }
 pub struct RecoveryPreflight<E: Context, I> {
     journal: Journal<E, I>,
@@ -64,7 +64,7 @@ impl<E: Context, I: CodecFixedShared> Journal<E, I> {
         };
         Ok(Self {
             manager: Manager::init_bounded(context, cfg, ceiling).await?,
-            _p: PhantomData,
+            rows: PhantomData,
         })
     }
     pub async fn preflight_floors(

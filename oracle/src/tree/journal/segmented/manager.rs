@@ -38,7 +38,7 @@ pub struct Manager<E: Context, F> {
     partition: String,
     blobs: BTreeMap<u64, Writer<E::Blob>>,
     floor: u64,
-    _f: F,
+    factory: F,
 }
 impl<E: Context, F: Send + Sync> Manager<E, F> {
     pub async fn init_bounded(context: E, cfg: Config<F>, ceiling: u64) -> Result<Self, Error> {
@@ -55,7 +55,7 @@ impl<E: Context, F: Send + Sync> Manager<E, F> {
             partition: cfg.partition,
             blobs,
             floor: 0,
-            _f: cfg.factory,
+            factory: cfg.factory,
         })
     }
     fn guard(&self, section: u64) -> Result<(), Error> {
