@@ -74,15 +74,16 @@ impl<K: Array> Held<K> {
         let (mut borne, mut candidates) = (Vec::new(), 0);
         for handle in self.keys.get(self.translator.hash_one(wanted)) {
             let (slot, position) = unpack(handle);
-            let section = self.sections.slot(slot);
-            if section.keys[position as usize] != wanted {
+            let kept = self.sections.slot(slot);
+            let translated = &kept.keys[position as usize];
+            if *translated != wanted {
                 continue;
             }
             candidates += 1;
-            let row = run(self.oversized.get(section.start, position))?;
+            let row = run(self.oversized.get(kept.start, position))?;
             if row.key == *key {
                 borne.push(Borne {
-                    start: section.start,
+                    start: kept.start,
                     position,
                     row,
                 });
