@@ -24,9 +24,9 @@ impl commonware_codec::EncodeSize for Value {
 
 impl Read for Value {
     type Cfg = ();
-    fn read_cfg(buf: &mut impl Buf, _: &()) -> Result<Self, commonware_codec::Error> {
-        let mut bytes = vec![0; buf.remaining()];
-        buf.copy_to_slice(&mut bytes);
+    fn read_cfg(from: &mut impl Buf, _: &()) -> Result<Self, commonware_codec::Error> {
+        let mut bytes = vec![0; from.remaining()];
+        from.copy_to_slice(&mut bytes);
         Ok(Self(bytes))
     }
 }

@@ -42,11 +42,11 @@ impl RMap {
         let next = i.checked_add(1).and_then(|n| self.0.range(n..).next()).map(|(&s, _)| s);
         (self.run_of(i).map(|r| r.1), next)
     }
-    pub fn missing_items(&self, start: u64, max: usize) -> Vec<u64> {
+    pub fn missing_items(&self, from: u64, most: usize) -> Vec<u64> {
         let mut out = Vec::new();
         let Some(last) = self.last_index() else { return out };
-        let mut i = start;
-        while i < last && out.len() < max {
+        let mut i = from;
+        while i < last && out.len() < most {
             match self.run_of(i) {
                 Some((_, e)) if e >= last => break,
                 Some((_, e)) => i = e + 1,

@@ -1,6 +1,8 @@
 //! Stand-in for the original's rows of one size. It has no pages, and checks none.
-use super::manager::{Config as ManagerConfig, Manager, WriteFactory};
-use crate::{Context, journal::Error};
+use crate::Context;
+use crate::journal::Error;
+use super::Outcome;
+use super::manager as kept;
 use commonware_codec::CodecFixedShared;
 use commonware_runtime::{Handle, ReadOptions, buffer::paged::CacheRef};
 use std::{collections::BTreeMap, marker::PhantomData, num::NonZeroUsize};
@@ -10,7 +12,7 @@ pub struct Config {
     pub write_buffer: NonZeroUsize,
 }
 pub struct Journal<E: Context, I> {
-    manager: Manager<E, WriteFactory>,
+    manager: kept::Manager<E, kept::WriteFactory>,
     rows: PhantomData<fn(I)>,
 }
 pub struct RecoveryPreflight<E: Context, I> {
@@ -21,7 +23,7 @@ impl<E: Context, I: CodecFixedShared> RecoveryPreflight<E, I> {
     pub fn boundaries(&self) -> &BTreeMap<u64, Option<I>> {
         &self.boundaries
     }
-    pub async fn finish(self) -> Result<Journal<E, I>, Error> {
+    pub async fn finish(self) -> Outcome<Journal<E, I>> {
         Ok(self.journal)
     }
 }
@@ -31,7 +33,7 @@ pub struct Replay<E: Context, I> {
     at: (usize, u64),
 }
 impl<E: Context, I: CodecFixedShared> Replay<E, I> {
-    pub async fn next(&mut self) -> Option<Result<(u64, u64, I), Error>> {
+    pub async fn next(&mut self) -> Option<Outcome<(u64, u64, I)>> {
         loop {
             let &s = self.sections.get(self.at.0)?;
             let p = self.at.1;
@@ -45,7 +47,7 @@ impl<E: Context, I: CodecFixedShared> Replay<E, I> {
             }
         }
     }
-    pub fn finish(self) -> Result<Journal<E, I>, Error> {
+    pub fn finish(self) -> Outcome<Journal<E, I>> {
         if self.at.0 < self.sections.len() {
             Err(Error::ReplayFailed)
         } else {
@@ -55,15 +57,15 @@ impl<E: Context, I: CodecFixedShared> Replay<E, I> {
 }
 impl<E: Context, I: CodecFixedShared> Journal<E, I> {
     pub const CHUNK_SIZE: usize = I::SIZE;
-    pub async fn init_bounded(context: E, cfg: Config, ceiling: u64) -> Result<Self, Error> {
-        let cfg = ManagerConfig {
+    pub async fn init_bounded(context: E, cfg: Config, ceiling: u64) -> Outcome<Self> {
+        let cfg = kept::Config {
             partition: cfg.partition,
-            factory: WriteFactory {
+            factory: kept::WriteFactory {
                 capacity: cfg.write_buffer,
             },
         };
         Ok(Self {
-            manager: Manager::init_bounded(context, cfg, ceiling).await?,
+            manager: kept::Manager::init_bounded(context, cfg, ceiling).await?,
             rows: PhantomData,
         })
     }
@@ -72,7 +74,7 @@ impl<E: Context, I: CodecFixedShared> Journal<E, I> {
         cfg: Config,
         floors: &BTreeMap<u64, u64>,
         ceiling: u64,
-    ) -> Result<RecoveryPreflight<E, I>, Error> {
+    ) -> Outcome<RecoveryPreflight<E, I>> {
         let journal = Self::init_bounded(context, cfg, ceiling).await?;
         let mut boundaries = BTreeMap::new();
         for (&s, &n) in floors {
@@ -90,10 +92,10 @@ impl<E: Context, I: CodecFixedShared> Journal<E, I> {
         }
         Ok(RecoveryPreflight { journal, boundaries })
     }
-    pub async fn preflight_restore(_: E, _: Config, _: u64, _: u64) -> Result<RecoveryPreflight<E, I>, Error> {
+    pub async fn preflight_restore(_: E, _: Config, _: u64, _: u64) -> Outcome<RecoveryPreflight<E, I>> {
         unimplemented!("the archive goes back to no checkpoint")
     }
-    pub async fn recoverable_prefix_len_at_most(&self, _: u64, _: u64, _: NonZeroUsize) -> Result<u64, Error> {
+    pub async fn recoverable_prefix_len_at_most(&self, _: u64, _: u64, _: NonZeroUsize) -> Outcome<u64> {
         unimplemented!("the archive opens no part of a journal")
     }
     pub async fn replay(
@@ -102,7 +104,7 @@ impl<E: Context, I: CodecFixedShared> Journal<E, I> {
         position: u64,
         _: NonZeroUsize,
         _: ReadOptions,
-    ) -> Result<Replay<E, I>, Error> {
+    ) -> Outcome<Replay<E, I>> {
         let sections: Vec<u64> = self.sections().filter(|&s| s >= section).collect();
         let first = if sections.first() == Some(&section) {
             position
@@ -118,55 +120,55 @@ impl<E: Context, I: CodecFixedShared> Journal<E, I> {
     pub fn sections(&self) -> impl Iterator<Item = u64> + '_ {
         self.manager.sections()
     }
-    pub fn size(&self, section: u64) -> Result<u64, Error> {
+    pub fn size(&self, section: u64) -> Outcome<u64> {
         self.manager.size(section)
     }
-    pub fn section_len(&self, section: u64) -> Result<u64, Error> {
+    pub fn section_len(&self, section: u64) -> Outcome<u64> {
         Ok(self.manager.size(section)? / I::SIZE as u64)
     }
-    pub async fn get(&self, section: u64, position: u64) -> Result<I, Error> {
-        let w = self.manager.get(section)?.ok_or(Error::SectionOutOfRange(section))?;
+    pub async fn get(&self, start: u64, position: u64) -> Outcome<I> {
+        let w = self.manager.get(start)?.ok_or(Error::SectionOutOfRange(start))?;
         if position >= w.size() / I::SIZE as u64 {
             return Err(Error::ItemOutOfRange(position));
         }
         let b = w.read_at(position * I::SIZE as u64, I::SIZE).await?;
         I::decode_cfg(b.as_ref(), &()).map_err(Error::Codec)
     }
-    pub async fn last(&self, section: u64) -> Result<Option<I>, Error> {
+    pub async fn last(&self, section: u64) -> Outcome<Option<I>> {
         self.manager.get(section)?.ok_or(Error::SectionOutOfRange(section))?;
         match self.section_len(section)? {
             0 => Ok(None),
             n => self.get(section, n - 1).await.map(Some),
         }
     }
-    pub async fn append(mut self, section: u64, item: &I) -> Result<(Self, u64), Error> {
+    pub async fn append(mut self, section: u64, item: &I) -> Outcome<(Self, u64)> {
         let w = self.manager.take(section).await?;
         let at = w.size();
         let w = w.write_at(at, item.encode()).await?;
         self.manager.put(section, w);
         Ok((self, at / I::SIZE as u64))
     }
-    pub async fn truncate_pending_section(mut self, section: u64, size: u64) -> Result<Self, Error> {
-        self.manager = self.manager.truncate_pending_section(section, size).await?;
+    pub async fn truncate_pending_section(mut self, start: u64, bytes: u64) -> Outcome<Self> {
+        self.manager = self.manager.truncate_pending_section(start, bytes).await?;
         Ok(self)
     }
-    pub async fn truncate_pending_tail(mut self, section: u64, size: u64) -> Result<Self, Error> {
-        self.manager = self.manager.truncate_pending(section, size).await?;
+    pub async fn truncate_pending_tail(mut self, start: u64, bytes: u64) -> Outcome<Self> {
+        self.manager = self.manager.truncate_pending(start, bytes).await?;
         Ok(self)
     }
-    pub async fn sync(mut self, s: impl crate::Sections) -> Result<Self, Error> {
+    pub async fn sync(mut self, s: impl crate::Sections) -> Outcome<Self> {
         self.manager = self.manager.sync(s).await?;
         Ok(self)
     }
-    pub async fn start_sync(mut self, s: impl crate::Sections) -> Result<(Self, Handle<()>), Error> {
+    pub async fn start_sync(mut self, s: impl crate::Sections) -> Outcome<(Self, Handle<()>)> {
         let h;
         (self.manager, h) = self.manager.start_sync(s).await?;
         Ok((self, h))
     }
-    pub async fn sync_all(self) -> Result<Self, Error> {
+    pub async fn sync_all(self) -> Outcome<Self> {
         Ok(self)
     }
-    pub async fn prune(mut self, min: u64) -> Result<(Self, bool), Error> {
+    pub async fn prune(mut self, min: u64) -> Outcome<(Self, bool)> {
         let went;
         (self.manager, went) = self.manager.prune(min).await?;
         Ok((self, went))
@@ -180,7 +182,7 @@ impl<E: Context, I: CodecFixedShared> Journal<E, I> {
     pub fn newest_section(&self) -> Option<u64> {
         self.manager.newest_section()
     }
-    pub async fn destroy(self) -> Result<(), Error> {
+    pub async fn destroy(self) -> Outcome<()> {
         self.manager.destroy().await
     }
 }

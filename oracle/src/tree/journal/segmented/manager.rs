@@ -1,4 +1,5 @@
 //! Stand-in for the original's keeper of blobs: one for each section, and a floor that is 0 at the beginning.
+use super::Outcome;
 use crate::{Context, journal::Error};
 use commonware_runtime::{Blob as _, Error as RError, Handle, IoBuf, ReadOptions, WriteOptions};
 use std::{collections::BTreeMap, num::NonZeroUsize};
@@ -41,7 +42,7 @@ pub struct Manager<E: Context, F> {
     factory: F,
 }
 impl<E: Context, F: Send + Sync> Manager<E, F> {
-    pub async fn init_bounded(context: E, cfg: Config<F>, ceiling: u64) -> Result<Self, Error> {
+    pub async fn init_bounded(context: E, cfg: Config<F>, ceiling: u64) -> Outcome<Self> {
         let mut blobs = BTreeMap::new();
         for name in context.scan(&cfg.partition).await? {
             let section = u64::from_be_bytes(name[..].try_into().unwrap());
@@ -58,18 +59,18 @@ impl<E: Context, F: Send + Sync> Manager<E, F> {
             factory: cfg.factory,
         })
     }
-    fn guard(&self, section: u64) -> Result<(), Error> {
+    fn guard(&self, section: u64) -> Outcome<()> {
         if section < self.floor {
             Err(Error::AlreadyPrunedToSection(self.floor))
         } else {
             Ok(())
         }
     }
-    pub fn get(&self, section: u64) -> Result<Option<&Writer<E::Blob>>, Error> {
+    pub fn get(&self, section: u64) -> Outcome<Option<&Writer<E::Blob>>> {
         self.guard(section)?;
         Ok(self.blobs.get(&section))
     }
-    pub async fn get_or_create(&mut self, section: u64) -> Result<&mut Writer<E::Blob>, Error> {
+    pub async fn get_or_create(&mut self, section: u64) -> Outcome<&mut Writer<E::Blob>> {
         self.guard(section)?;
         if !self.blobs.contains_key(&section) {
             let (blob, size) = self.context.open(&self.partition, &section.to_be_bytes()).await?;
@@ -77,46 +78,46 @@ impl<E: Context, F: Send + Sync> Manager<E, F> {
         }
         Ok(self.blobs.get_mut(&section).unwrap())
     }
-    pub async fn take(&mut self, section: u64) -> Result<Writer<E::Blob>, Error> {
+    pub async fn take(&mut self, section: u64) -> Outcome<Writer<E::Blob>> {
         self.get_or_create(section).await?;
         Ok(self.blobs.remove(&section).unwrap())
     }
     pub fn put(&mut self, section: u64, w: Writer<E::Blob>) {
         self.blobs.insert(section, w);
     }
-    pub fn size(&self, section: u64) -> Result<u64, Error> {
+    pub fn size(&self, section: u64) -> Outcome<u64> {
         Ok(self.get(section)?.map_or(0, |w| w.size))
     }
-    pub async fn sync(self, _: impl crate::Sections) -> Result<Self, Error> {
+    pub async fn sync(self, _: impl crate::Sections) -> Outcome<Self> {
         Ok(self)
     }
-    pub async fn start_sync(self, _: impl crate::Sections) -> Result<(Self, Handle<()>), Error> {
+    pub async fn start_sync(self, _: impl crate::Sections) -> Outcome<(Self, Handle<()>)> {
         Ok((self, Handle::ready(Ok(()))))
     }
-    pub async fn sync_all(self) -> Result<Self, Error> {
+    pub async fn sync_all(self) -> Outcome<Self> {
         Ok(self)
     }
-    pub async fn truncate_pending_section(mut self, section: u64, size: u64) -> Result<Self, Error> {
-        if let Some(w) = self.blobs.get_mut(&section).filter(|w| w.size > size) {
-            w.blob.resize(size).await?;
-            w.size = size;
+    pub async fn truncate_pending_section(mut self, start: u64, bytes: u64) -> Outcome<Self> {
+        if let Some(w) = self.blobs.get_mut(&start).filter(|w| w.size > bytes) {
+            w.blob.resize(bytes).await?;
+            w.size = bytes;
         }
         Ok(self)
     }
-    pub async fn truncate_pending_sections(mut self, sizes: &BTreeMap<u64, u64>) -> Result<Self, Error> {
+    pub async fn truncate_pending_sections(mut self, sizes: &BTreeMap<u64, u64>) -> Outcome<Self> {
         for (&s, &n) in sizes {
             self = self.truncate_pending_section(s, n).await?;
         }
         Ok(self)
     }
-    pub async fn truncate_pending(mut self, section: u64, size: u64) -> Result<Self, Error> {
-        let later: Vec<u64> = self.sections().filter(|&s| s > section).collect();
+    pub async fn truncate_pending(mut self, start: u64, bytes: u64) -> Outcome<Self> {
+        let later: Vec<u64> = self.sections().filter(|&s| s > start).collect();
         for s in later {
             self = self.remove_section(s).await?.0;
         }
-        self.truncate_pending_section(section, size).await
+        self.truncate_pending_section(start, bytes).await
     }
-    pub async fn remove_section(mut self, section: u64) -> Result<(Self, bool), Error> {
+    pub async fn remove_section(mut self, section: u64) -> Outcome<(Self, bool)> {
         let had = self.blobs.remove(&section).is_some();
         if had {
             self.context
@@ -125,7 +126,7 @@ impl<E: Context, F: Send + Sync> Manager<E, F> {
         }
         Ok((self, had))
     }
-    pub async fn prune(mut self, min: u64) -> Result<(Self, bool), Error> {
+    pub async fn prune(mut self, min: u64) -> Outcome<(Self, bool)> {
         let gone: Vec<u64> = self.sections().filter(|&s| s < min).collect();
         for &s in &gone {
             self = self.remove_section(s).await?.0;
@@ -145,10 +146,10 @@ impl<E: Context, F: Send + Sync> Manager<E, F> {
     pub fn sections(&self) -> impl Iterator<Item = u64> + '_ {
         self.blobs.keys().copied()
     }
-    pub async fn destroy(self) -> Result<(), Error> {
+    pub async fn destroy(self) -> Outcome<()> {
         Ok(self.context.remove(&self.partition, None).await?)
     }
 }
-pub async fn truncate_paged_tail<E: Context>(_: &E, _: &str, _: u64, _: u64, _: u64) -> Result<(), Error> {
+pub async fn truncate_paged_tail<E: Context>(_: &E, _: &str, _: u64, _: u64, _: u64) -> Outcome<()> {
     unimplemented!("the archive opens no part of a journal")
 }
