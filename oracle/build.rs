@@ -46,7 +46,21 @@ fn lay(tree: &Path, name: &str, text: &[u8]) {
     fs::write(path, text).unwrap();
 }
 
+/// The static library of this repository, for the speeds side by side; `LUNDWAZO` names the folder that it lies in.
+fn link_ours() {
+    println!("cargo:rerun-if-env-changed=LUNDWAZO");
+    let Some(folder) = env::var_os("LUNDWAZO").map(PathBuf::from) else {
+        stop("LUNDWAZO is not set: it names the folder of liblundwazo.a.")
+    };
+    println!("cargo:rerun-if-changed={}", folder.join("liblundwazo.a").display());
+    println!("cargo:rustc-link-search=native={}", folder.display());
+    println!("cargo:rustc-link-lib=static=lundwazo");
+}
+
 fn main() {
+    if env::var_os("CARGO_FEATURE_SIDE_BY_SIDE").is_some() {
+        link_ours();
+    }
     println!("cargo:rerun-if-env-changed=ORIGINAL");
     let Some(folder) = env::var_os("ORIGINAL").map(PathBuf::from) else {
         stop("ORIGINAL is not set: it names the folder of the original's source.")

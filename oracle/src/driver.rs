@@ -8,8 +8,9 @@ use crate::keys::{BoxNumber, Digest, Kind};
 use crate::script::{Start, number, number_or_none, refused_by_us};
 use crate::surroundings::{KEYS, MARKERS, VALUES};
 use crate::translator::AnyTranslator;
+use crate::value::Value;
 use crate::{Begin, Disk, Original, run};
-use reading::{Held, Value, told};
+use reading::{Held, told};
 use std::num::{NonZeroU64, NonZeroUsize};
 
 struct Sailing<K: Kind> {

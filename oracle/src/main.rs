@@ -10,8 +10,11 @@ mod desk;
 mod keys;
 pub mod rmap;
 mod script;
+#[cfg(feature = "side_by_side")]
+mod speed;
 mod surroundings;
 pub mod translator;
+mod value;
 
 pub use surroundings::{Context, Disk, Sections, SyncCompletion};
 
@@ -46,7 +49,12 @@ pub fn run<F: Future>(future: F) -> F::Output {
 }
 
 fn main() {
-    let bare = std::env::args().nth(1).is_some_and(|word| word == "--bare");
+    let word = std::env::args().nth(1);
+    #[cfg(feature = "side_by_side")]
+    if word.as_deref() == Some("--speed") {
+        return speed::measure();
+    }
+    let bare = word.is_some_and(|word| word == "--bare");
     std::panic::set_hook(Box::new(|_| {}));
     let out = std::io::stdout().lock();
     desk::Desk::new(bare).serve(std::io::stdin().lock(), out);

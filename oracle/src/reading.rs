@@ -3,33 +3,9 @@
 use super::super::*;
 use crate::script::{Start, number_or_none, ours, refused, refused_by_us, shown};
 use crate::translator::AnyTranslator;
+use crate::value::Value;
 use crate::{Disk, run};
 use std::hash::BuildHasher;
-
-/// A value is its bytes and nothing else.
-#[derive(Clone)]
-pub(super) struct Value(pub Vec<u8>);
-
-impl Write for Value {
-    fn write(&self, buf: &mut impl BufMut) {
-        buf.put_slice(&self.0)
-    }
-}
-
-impl commonware_codec::EncodeSize for Value {
-    fn encode_size(&self) -> usize {
-        self.0.len()
-    }
-}
-
-impl Read for Value {
-    type Cfg = ();
-    fn read_cfg(from: &mut impl Buf, _: &()) -> Result<Self, commonware_codec::Error> {
-        let mut bytes = vec![0; from.remaining()];
-        from.copy_to_slice(&mut bytes);
-        Ok(Self(bytes))
-    }
-}
 
 pub(super) type Held<K> = Inner<AnyTranslator, Disk, K, Value>;
 

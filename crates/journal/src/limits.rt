@@ -5,6 +5,8 @@ ghost use Rattle.journal.specs.Making.{in_range};
 
 use crate::row::CHECK_SIZE;
 
+// As C lays it out, since callers in C choose limits too.
+#[repr(C)]
 #[derive(Clone, Copy, Debug, PartialEq, Eq)]
 pub struct Limits {
     /// How many sections may be kept.

@@ -14,6 +14,8 @@ pub enum KeyFault {
 
 /// A refusal as every layer shows it; what a refusal does not name is 0.
 // Numbers, since this is the form in which a refusal leaves the library, as docs/REFUSALS.md has it: within it they are enums.
+// As C lays it out, since callers in C are shown it too.
+#[repr(C)]
 #[derive(Clone, Copy, Debug, PartialEq, Eq)]
 pub struct FaultParts {
     pub number: u64,

@@ -1,6 +1,8 @@
 // What the archive's calls answer where they do not refuse.
 
 /// Where a kept record lies: its move number, and its position in the section of that number. Places are in order of both.
+// As C lays it out, since callers in C lend slices of them too.
+#[repr(C)]
 #[derive(Clone, Copy, Debug, PartialEq, Eq, PartialOrd, Ord)]
 pub struct Place {
     pub number: u64,

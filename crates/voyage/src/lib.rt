@@ -7,6 +7,7 @@ ghost use Rattle.journal.specs.Making.{empty};
 ghost use Rattle.memory.specs.Start.{start_fault};
 ghost use Rattle.format.specs.Mount.{mount_fault};
 ghost use Rattle.format.specs.State.{decoded};
+ghost use Rattle.pages.specs.Journals.{means};
 ghost use Rattle.archive.specs.Parts.{kind_of};
 ghost use Rattle.voyage.specs.Voyages.{Sails, SailsIf};
 
@@ -33,6 +34,17 @@ pub fn run_cached<J: Journal, T: Translator + Drop, K: Key + Drop>(
     run(Cache::over(journal), translator, turns)
         .into_journal()
         .into_below()
+}
+
+/// Takes mounted byte pages through a run, and gives them back: whoever saves their bytes saves what the run left.
+pub fn run_mounted<'a, T: Translator + Drop, K: Key + Drop>(
+    pages: Pages<'a>,
+    translator: T,
+    turns: &mut Vec<Turn<K>>,
+) -> Pages<'a>
+    ensures { Sails (kind_of T.Translator.translated K.Key.W K.Key.flaw translator) (means pages.entry) K.Key.bytes (vec_items turns.old) (vec_items turns.new) (means result) }
+{
+    run_cached(pages, translator, turns)
 }
 
 /// A run on the byte pages that lie in two slices. Where they cannot be mounted it is refused, and no turn is answered.

@@ -16,8 +16,8 @@ use rules::fault::ArchiveFault;
 use rules::turn::Turn;
 
 impl<J: Journal, T: Translator, K: Key> Archive<J, T, K> {
-    // The answer to any call, over its buffers.
-    fn reply(
+    /// The answer to any call, over its buffers.
+    pub fn reply(
         &mut self,
         call: &Call<K>,
         bytes: &mut [u8],
