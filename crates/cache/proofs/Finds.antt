@@ -1,10 +1,12 @@
 -- What the table's search finds. Assumes nothing.
-use Rattle.std.proofs.Common.{◌≡◌, ℕ, zero, suc, ◌<◌, true, List, [], ◌∷◌, length, set, is_some, Some, None, Option, sym, refl, ap, ◌∙◌, subst, ⊎_elim, arith}
+use Rattle.std.proofs.Common.{◌≡◌, ℕ, zero, suc, ◌<◌, true, false, List, [], ◌∷◌, length, take, set, is_some, Some, None, Ok, Err, Option, Result, sym, refl, ap, ◌∙◌, subst, ⊎_elim, arith}
 use Rattle.std.specs.List.{AllByRecursion}
 use Rattle.std.proofs.lemmas.Bool.{cond-true, cond-false, cond_both, and_parts, and_from, eqb-true, eq-eqb, cases_Bool}
+use Rattle.journal.specs.declared.row.Entry.{Entry}
+use Rattle.journal.specs.declared.fault.JournalFault.{JournalFault}
 use Rattle.cache.specs.declared.row_copy.RowCopy.{RowCopy}
-use Rattle.cache.specs.Row.{is_of}
-use Rattle.cache.specs.Table.{find_slot, held}
+use Rattle.cache.specs.Row.{is_of, copy_of}
+use Rattle.cache.specs.Table.{Table, find_slot, held, with_copy, table_read}
 
 -- A copy found: what holds of every place holds of its place, and it is of that row.
 pub record Found (P : Option RowCopy → Type 0) (s p : ℕ) (x : RowCopy) : Type 0 where
@@ -35,3 +37,12 @@ held_set (Some y ∷ ys) (suc at) x h =
 
 pub held_after : (xs ys : List (Option RowCopy)) (at s p : ℕ) (x : RowCopy) → at < length xs → x.start ≡ s → x.position ≡ p → ys ≡ set xs at (Some x) → held ys s p ≡ true
 held_after xs ys at s p x h a b e = rw (e, ← a, ← b) (held_set xs at x h)
+
+-- The table after a read: of a row with a copy, and of one without.
+pub read_held : (t : Table) (s p : ℕ) (key : List ℕ) (r : Result Entry JournalFault) → held t.slots s p ≡ true → t ≡ table_read t s p key r
+read_held t s p key (Err f) h = refl
+read_held t s p key (Ok e) h = sym (cond-true _ _ _ h)
+
+pub read_new : (t t' : Table) (s p w w' : ℕ) (key : List ℕ) (e : Entry) (x : RowCopy) → held t.slots s p ≡ false → w ≡ w' → x ≡ copy_of s p e (take w key) → t' ≡ with_copy t x → t' ≡ table_read t s p (take w' key) (Ok e)
+read_new t t' s p w w' key e x h wide is to =
+    to ∙ ap (with_copy t) (is ∙ ap (λ (n : ℕ). copy_of s p e (take n key)) wide) ∙ sym (cond-false _ _ _ h)

@@ -1,7 +1,8 @@
 // The cache as a journal, and what it promises beside that.
 
-ghost use Rattle.std.specs.Prelude.{◌≡◌, ◌<◌, replicate, None};
-ghost use Rattle.cache.specs.Table.{held};
+ghost use Rattle.std.specs.Prelude.{◌≡◌, ◌<◌, map, replicate, None};
+ghost use Rattle.journal.specs.Promises.{Appends, ReadsEntry, ReadsValue, Prunes};
+ghost use Rattle.cache.specs.Table.{held, forgotten, with_copy};
 ghost use Rattle.cache.specs.Fit.{CacheFits, Fetches, Wide};
 
 use super::{find, forget};
@@ -65,6 +66,15 @@ impl<J: Journal> Cache<J> {
         self.below.limits().width.min(32) as usize
     }
 
+    // A copy to the next place. The 16 are taken in turn, so that the copy that came first goes first.
+    fn take_place(&mut self, copy: RowCopy)
+        ensures below { self.new.below ≡ self.old.below }
+        ensures table { record { slots = self.new.slots; next = self.new.next } ≡ with_copy (record { slots = self.old.slots; next = self.old.next }) copy }
+    {
+        self.slots[self.next] = Some(copy);
+        self.next = (self.next + 1) % 16;
+    }
+
     /// Reads an entry as every journal does; an accepted read leaves a copy of its row in the table, and the read of a row
     /// with a copy does nothing to the journal below.
     pub fn fetch(
@@ -73,7 +83,7 @@ impl<J: Journal> Cache<J> {
         position: u64,
         key: &mut [u8],
     ) -> Result<Entry, JournalFault>
-        ensures { Fetches J.Journal.fits J.Journal.meaning self.old.below self.new.below self.old.slots self.new.slots start position key.old key.new result }
+        ensures { Fetches J.Journal.fits J.Journal.meaning self.old.below self.new.below (record { slots = self.old.slots; next = self.old.next }) (record { slots = self.new.slots; next = self.new.next }) start position key.old key.new result }
     {
         let width = self.key_width();
         match find(&self.slots, start, position) {
@@ -83,8 +93,7 @@ impl<J: Journal> Cache<J> {
                 // An accepted read had room for the key; a journal that does not fit could say otherwise.
                 if width <= key.len() {
                     let copy = RowCopy::new(start, position, entry, &key[..width]);
-                    self.slots[self.next] = Some(copy);
-                    self.next = (self.next + 1) % 16;
+                    self.take_place(copy);
                 }
                 Ok(entry)
             }
@@ -121,7 +130,11 @@ impl<J: Journal> Journal for Cache<J> {
         label: Label,
         key: &[u8],
         value: &[u8],
-    ) -> Result<u64, JournalFault> {
+    ) -> Result<u64, JournalFault>
+        ensures promise { Appends ⟦<Self as Journal>⟧.fits ⟦<Self as Journal>⟧.meaning self.old self.new start label key.now value.now result }
+        ensures slots { self.new.slots ≡ self.old.slots }
+        ensures next { self.new.next ≡ self.old.next }
+    {
         self.below.append(start, label, key, value)
     }
 
@@ -130,7 +143,10 @@ impl<J: Journal> Journal for Cache<J> {
         start: u64,
         position: u64,
         key: &mut [u8],
-    ) -> Result<Entry, JournalFault> {
+    ) -> Result<Entry, JournalFault>
+        ensures promise { ReadsEntry ⟦<Self as Journal>⟧.fits ⟦<Self as Journal>⟧.meaning self.old self.new start position key.old key.new result }
+        ensures fetched { Fetches J.Journal.fits J.Journal.meaning self.old.below self.new.below (record { slots = self.old.slots; next = self.old.next }) (record { slots = self.new.slots; next = self.new.next }) start position key.old key.new result }
+    {
         self.fetch(start, position, key)
     }
 
@@ -139,11 +155,19 @@ impl<J: Journal> Journal for Cache<J> {
         start: u64,
         position: u64,
         value: &mut [u8],
-    ) -> Result<u64, JournalFault> {
+    ) -> Result<u64, JournalFault>
+        ensures promise { ReadsValue ⟦<Self as Journal>⟧.fits ⟦<Self as Journal>⟧.meaning self.old self.new start position value.old value.new result }
+        ensures slots { self.new.slots ≡ self.old.slots }
+        ensures next { self.new.next ≡ self.old.next }
+    {
         self.below.read_value(start, position, value)
     }
 
-    fn prune(&mut self, min: u64) -> bool {
+    fn prune(&mut self, min: u64) -> bool
+        ensures promise { Prunes ⟦<Self as Journal>⟧.fits ⟦<Self as Journal>⟧.meaning self.old self.new min result }
+        ensures slots { self.new.slots ≡ map (forgotten min) self.old.slots }
+        ensures next { self.new.next ≡ self.old.next }
+    {
         forget(&mut self.slots, min);
         self.below.prune(min)
     }
