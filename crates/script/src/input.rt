@@ -1,6 +1,7 @@
 // The script: its lines with their numbers, and what the last line of the output counts.
 
-ghost use Rattle.std.specs.Prelude.{◌≡◌};
+ghost use Rattle.std.specs.Prelude.{◌≡◌, false, IfOk, IfSome};
+ghost use Rattle.script.specs.Lines.{without, content, is_silent};
 
 use std::alloc::Global;
 use std::io;
@@ -31,21 +32,36 @@ pub struct Script {
     pub counts: Counts,
 }
 
+// The bytes without the last one, where that is `end`.
+fn without(bytes: &[u8], end: u8) -> &[u8]
+    ensures { result.now ≡ without end bytes.now }
+{
+    if bytes.last() == Some(&end) {
+        &bytes[..bytes.len() - 1]
+    } else {
+        bytes
+    }
+}
+
 // A line without what ends it: a line feed, and a carriage return before that.
-fn without_end(line: &[u8]) -> &[u8] {
-    let line = line.strip_suffix(b"\n").unwrap_or(line);
-    line.strip_suffix(b"\r").unwrap_or(line)
+fn without_end(line: &[u8]) -> &[u8]
+    ensures { result.now ≡ content line.now }
+{
+    without(without(line, b'\n'), b'\r')
 }
 
 // Whether a line is passed over: a comment, or spaces only.
-fn is_silent(line: &[u8]) -> bool {
+fn is_silent(line: &[u8]) -> bool
+    ensures { result ≡ is_silent line.now }
+{
     line.first() == Some(&b'#') || line.iter().all(|b| *b == b' ')
 }
 
 impl Script {
     /// The next line that is to be answered, or none where the input ends; what was counted stays.
     pub fn next_line(&mut self) -> io::Result<Option<Line>>
-        ensures { self.new.counts ≡ self.old.counts }
+        ensures counts { self.new.counts ≡ self.old.counts }
+        ensures line { IfOk result (λ o. IfSome o (λ line. (line.number ≡ self.new.read) × (is_silent line.bytes.items ≡ false))) }
     {
         // Counted, since a loop has to be seen to end, and how much input there is nobody knows.
         for _ in 0..u64::MAX {

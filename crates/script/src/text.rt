@@ -2,6 +2,7 @@
 
 ghost use Rattle.std.specs.Prelude.{◌≡◌};
 ghost use Rattle.script.specs.Hex.{digit_of};
+ghost use Rattle.script.specs.Lines.{is_plain};
 
 use std::fmt;
 
@@ -26,6 +27,13 @@ impl fmt::Display for Hex<'_> {
     }
 }
 
+// Whether a byte is shown as it is.
+fn is_plain(b: u8) -> bool
+    ensures { result ≡ is_plain b }
+{
+    (32..=126).contains(&b) && b != b'\\'
+}
+
 /// Bytes, shown as text; a byte that is no printable ASCII, and the backslash, as `\xNN`.
 #[derive(Drop)]
 pub struct Escaped<'a>(pub &'a [u8]);
@@ -34,11 +42,11 @@ impl fmt::Display for Escaped<'_> {
     fn fmt<W: fmt::Write>(&self, f: &mut fmt::Formatter<W>) -> fmt::Result {
         for b in self.0 {
             let b = *b;
-            if b < 32 || b > 126 || b == b'\\' {
-                write!(f, "\\x{b:02x}")?;
-            } else {
+            if is_plain(b) {
                 let c = char::from(b);
                 write!(f, "{c}")?;
+            } else {
+                write!(f, "\\x{b:02x}")?;
             }
         }
         Ok(())
