@@ -77,7 +77,7 @@ module _ (m : Meaning) (n : ℕ) where
 listed_count : (kind : Kind) (m : Meaning) (o : Option ℕ) (b : Book) (h : Handed) (a : Answer) (n c : ℕ) → h.call ≡ ListNumber n → ToldBy kind m o b h a → a.says ≡ Some (Ok (reply.ListedByNumber c))
     → c ≡ length (those (number_is n) b.rows)
 listed_count kind m None b h a n c q t s =
-    let y : a.says ≡ Some (Err NotLoaded) = ap (λ x. x.says) (subst (λ (k : Call (List ℕ)). ToldFirst m (change_of k) h a) q t) in
+    let y : a.says ≡ Some (Err NotLoaded) = ap (λ x. x.says) (subst (λ (k : Call (List ℕ)). ToldFirst kind m (change_of k) h a) q t) in
     let z : ◌≡◌ {A = ℕ} 0 1 = cc in let v : ⊥ = omega arith in absurd v
 listed_count kind m (Some l) b h a n c q t s = by o.answers
   where

@@ -6,6 +6,7 @@ pub mod Sorted
 pub mod Numbers
 pub mod Changes
 pub mod Books
+pub mod FirstLoads
 pub mod Tells
 pub mod Repeats
 pub mod Refusals

@@ -18,11 +18,12 @@ use Rattle.rules.specs.declared.call.Call.TheVariants.{Load, Put, PutMulti, Prun
 use Rattle.rules.specs.declared.fault.ArchiveFault.{ArchiveFault}
 use Rattle.rules.specs.declared.fault.ArchiveFault.TheVariants.{ShortListing}
 use Rattle.rules.specs.State.{Kind, State, section_of, or_zero, Record, number_of, place_of, records_of, those, some_in, bears_number, bears_key, bears_both, lies_at, is_candidate, by_number, places_of, distinct}
-use Rattle.rules.specs.Calls.{Among, found_by, found_answer, found_buffer, first_answer, first_buffer, GetsOne, fitting, listing_places, stored_by, is_below, is_there, floor_reaches, starts_below, put_at, fresh_load_fault}
+use Rattle.rules.specs.Calls.{Among, found_by, found_answer, found_buffer, first_answer, first_buffer, GetsOne, fitting, listing_places, stored_by, is_below, is_there, floor_reaches, starts_below, put_at}
 use Rattle.rules.specs.Steps.{Handed, Answer, answer, said, Answers, AnswersTo, Change, loads, puts, prunes, asks, change_of}
 use Rattle.rules.specs.History.{Book, rows_in, position_after, kept_in}
-use Rattle.rules.specs.Told.{BearsNumber, BearsKey, BearsBoth, LiesAt, SameTranslated, Borne, Counted, plain, refused, ToldListing, ReadsContent, Reads, ToldEarliest, ToldSome, ToldHas, ToldCounts, ToldPut, Reached, NumberedBelow, ToldPrune, ToldAt, ToldFirst, ToldBy, Told}
+use Rattle.rules.specs.Told.{BearsNumber, BearsKey, BearsBoth, LiesAt, SameTranslated, Borne, Counted, plain, refused, ToldListing, ReadsContent, Reads, ToldEarliest, ToldSome, ToldHas, ToldCounts, ToldPut, Reached, NumberedBelow, ToldPrune, ToldAt, ToldLoad, ToldFirst, ToldBy, Told}
 use Rattle.law.proofs.Tests.{decides_number, decides_key, decides_both, decides_place, decides_candidate}
+use Rattle.law.proofs.FirstLoads.{told_load}
 use Rattle.law.proofs.Lists.{Decided, counted_those, those_all, those_same, among_those, those_among, some_there, there_some, none_there}
 use Rattle.law.proofs.Arrivals.{at_most, over}
 use Rattle.law.proofs.Same.{Same, same_held, turned, across, count_same, Homed, homed_arrived, homed_same, own_same, earliest}
@@ -260,20 +261,10 @@ rows_counted [] = refl
 rows_counted (x ∷ xs) = filed_counted x.start 0 x.rows (records_of xs) (rows_in xs) (rows_counted xs)
 
 module _ (kind : Kind) (m : Meaning) where
-  told_load : (n : ℕ) (bs : List ℕ) (ps : List Place) (a : Answer) → n ≡ length (rows_in m.sections) → (x : Option ArchiveFault) → a ≡ answer (said reply.Loaded (or_fault x n)) bs ps
-      → (c : ℕ) → a.says ≡ Some (Ok (reply.Loaded c)) → (c ≡ length (rows_in m.sections)) × (a ≡ answer (Some (Ok (reply.Loaded c))) bs ps)
-  told_load n bs ps a q None e c s =
-      let y : a.says ≡ Some (Ok (reply.Loaded n)) = ap (λ x. x.says) e in
-      let z : n ≡ c = cc in
-      (sym z ∙ q, e ∙ ap (λ i. answer (Some (Ok (reply.Loaded i))) bs ps) z)
-  told_load n bs ps a q (Some f) e c s =
-      let y : a.says ≡ Some (Err f) = ap (λ x. x.says) e in
-      no_zero (let v : ◌≡◌ {A = ℕ} 0 1 = cc in v)
-
   told_new : (f : Option ℕ) (j : Meaning) (c : Change) (h : Handed) (a : Answer) → j ≡ m
-      → SaysFirst kind (at None f j) c h.bytes h.places a → ToldFirst m c h a
+      → SaysFirst kind (at None f j) c h.bytes h.places a → ToldFirst kind m c h a
   told_new f j (loads l) h a t w =
-      told_load (length (records_of j.sections)) h.bytes h.places a (ap (λ (q : Meaning). length (records_of q.sections)) t ∙ rows_counted m.sections) (fresh_load_fault kind j l) w
+      subst (λ (q : Meaning). ToldLoad kind q l h a) t (told_load kind j l h a (length (records_of j.sections)) (rows_counted j.sections) w)
   told_new f j (puts multi label key) h a t w = w
   told_new f j (prunes x) h a t w = w
   told_new f j asks h a t w = w

@@ -7,10 +7,19 @@
 --   Lists P rs c ps       c records are P, the c places ps rise, and a place is among them exactly when a record that is P has it
 --   Different d P rs      the records of rs that are P bear d different numbers
 --   Reads r h a           the answer a is what the content of the record r requires
+--   RowAt m s p r         r is the row at position p of a section of the journal m that starts at s
+--   Loadable kind m l     what a first load asks: a section size and limits that an archive takes, the kind's width, and of each
+--                         row that its bytes are a key and its number belongs to its section
+--   Hinders kind m l f    the refusal f tells truly what stands against that
+--   ToldLoad              a first load: accepted with the count of rows where it may be, else refused with what hinders it
 --   Told                  what each call is told, by the book before it
 use Rattle.std.specs.Prelude.{◌≡◌, ℕ, suc, ◌<◌, ◌≤◌, Bool, true, false, ◌⊎◌, List, [], ◌∷◌, ◌++◌, length, drop, Some, None, Ok, Err, Option}
+use Rattle.std.specs.List.{slice_get}
+use Rattle.keys.specs.declared.fault.KeyFault.{KeyFault}
+use Rattle.keys.specs.declared.fault.KeyFault.TheVariants.{NotAKey, StoredKey}
+use Rattle.journal.specs.declared.limits.Limits.{Limits}
 use Rattle.journal.specs.declared.fault.JournalFault.TheVariants.{Short, Damaged}
-use Rattle.journal.specs.Meaning.{Meaning, Content, sound, damaged}
+use Rattle.journal.specs.Meaning.{Meaning, Section, Row, Content, sound, damaged}
 use Rattle.rules.specs.declared.answer.Place.{Place}
 use Rattle.rules.specs.declared.answer.Put.TheVariants.{BelowFloor, AlreadyThere, Stored}
 use Rattle.rules.specs.declared.answer.Pruned.TheVariants.{Unchanged, Struck}
@@ -19,7 +28,7 @@ use Rattle.rules.specs.declared.answer.Reply.TheVariants as reply
 use Rattle.rules.specs.declared.call.Call.{Call}
 use Rattle.rules.specs.declared.call.Call.TheVariants.{Load, Put, PutMulti, Prune, GetNumber, GetKey, GetPlace, HasNumber, HasKey, HasBoth, ListNumber, ListKey, Counts}
 use Rattle.rules.specs.declared.fault.ArchiveFault.{ArchiveFault}
-use Rattle.rules.specs.declared.fault.ArchiveFault.TheVariants.{NotLoaded, AlreadyLoaded, ShortListing, Journal}
+use Rattle.rules.specs.declared.fault.ArchiveFault.TheVariants.{SectionSize, JournalLimits, KeyWidth, WrongSection, NotLoaded, AlreadyLoaded, ShortListing, SlotTooLarge, PositionTooLarge, Key, Journal}
 use Rattle.rules.specs.State.{Kind, Record, section_of, or_zero, number_of, place_of}
 use Rattle.rules.specs.Calls.{Among}
 use Rattle.rules.specs.Steps.{Handed, Answer, answer, Change, loads, puts, prunes, asks, change_of}
@@ -173,15 +182,56 @@ ToldAt kind l b (ListNumber n) h a = ToldListing (BearsNumber n) (kept_in l b) (
 ToldAt kind l b (ListKey key) h a = ToldKeyListing kind key (kept_in l b) h a
 ToldAt kind l b Counts h a = ToldCounts (kept_in l b) b.floor h a
 
--- Before any load: a load tells how many rows it found, and every other call is refused.
-abbrev pub ToldFirst : Meaning → Change → Handed → Answer → Type 0
-ToldFirst m (loads size) h a = (c : ℕ) → a.says ≡ Some (Ok (reply.Loaded c)) → (c ≡ length (rows_in m.sections)) × (a ≡ plain h (reply.Loaded c))
-ToldFirst m (puts multi label key) h a = a ≡ refused h NotLoaded
-ToldFirst m (prunes min) h a = a ≡ refused h NotLoaded
-ToldFirst m asks h a = a ≡ refused h NotLoaded
+-- A first load, over the journal's sections and rows as they stand.
+abbrev pub Ranges : ℕ → ℕ → ℕ → Type 0
+Ranges low x high = (low ≤ x) × (x ≤ high)
+
+pub record SuitsArchive (l : Limits) : Type 0 where
+  pub slots : Ranges 1 l.slots 16
+  pub rows : Ranges 1 l.rows 128
+  pub bytes : Ranges 4 l.bytes 4096
+
+abbrev pub RowAt : Meaning → ℕ → ℕ → Row → Type 0
+RowAt m s p r = (x : Section) × Among x m.sections × (x.start ≡ s) × (slice_get x.rows p ≡ Some r)
+
+pub record Loadable (kind : Kind) (m : Meaning) (l : ℕ) : Type 0 where
+  pub sized : Ranges 1 l 64
+  pub limits : SuitsArchive m.limits
+  pub wide : kind.width ≡ m.limits.width
+  pub keys : (s p : ℕ) (r : Row) → RowAt m s p r → kind.flaw r.key ≡ None
+  pub homes : (s p : ℕ) (r : Row) → RowAt m s p r → section_of l r.label.number ≡ s
+
+abbrev pub HindersKey : Kind → Meaning → KeyFault → Type 0
+HindersKey kind m (NotAKey amount) = ⊥
+HindersKey kind m (StoredKey s p) = (r : Row) × RowAt m s p r × (kind.flaw r.key ≡ None → ⊥)
+
+abbrev pub Hinders : Kind → Meaning → ℕ → ArchiveFault → Type 0
+Hinders kind m l SectionSize = Ranges 1 l 64 → ⊥
+Hinders kind m l JournalLimits = SuitsArchive m.limits → ⊥
+Hinders kind m l KeyWidth = kind.width ≡ m.limits.width → ⊥
+Hinders kind m l (WrongSection s p) = (r : Row) × RowAt m s p r × (section_of l r.label.number ≡ s → ⊥)
+Hinders kind m l (Key f) = HindersKey kind m f
+Hinders kind m l NotLoaded = ⊥
+Hinders kind m l AlreadyLoaded = ⊥
+Hinders kind m l (ShortListing amount) = ⊥
+Hinders kind m l SlotTooLarge = ⊥
+Hinders kind m l PositionTooLarge = ⊥
+Hinders kind m l (Journal f) = ⊥
+
+abbrev pub ToldLoad : Kind → Meaning → ℕ → Handed → Answer → Type 0
+ToldLoad kind m l h a =
+    (Loadable kind m l × (a ≡ plain h (reply.Loaded (length (rows_in m.sections)))))
+    ⊎ ((f : ArchiveFault) × Hinders kind m l f × (a ≡ refused h f))
+
+-- Before any load every call but a load is refused.
+abbrev pub ToldFirst : Kind → Meaning → Change → Handed → Answer → Type 0
+ToldFirst kind m (loads size) h a = ToldLoad kind m size h a
+ToldFirst kind m (puts multi label key) h a = a ≡ refused h NotLoaded
+ToldFirst kind m (prunes min) h a = a ≡ refused h NotLoaded
+ToldFirst kind m asks h a = a ≡ refused h NotLoaded
 
 abbrev pub ToldBy : Kind → Meaning → Option ℕ → Book → Handed → Answer → Type 0
-ToldBy kind m None b h a = ToldFirst m (change_of h.call) h a
+ToldBy kind m None b h a = ToldFirst kind m (change_of h.call) h a
 ToldBy kind m (Some l) b h a = ToldAt kind l b h.call h a
 
 abbrev pub Told : Kind → Meaning → Book → Handed → Answer → Type 0
