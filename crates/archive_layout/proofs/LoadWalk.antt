@@ -7,7 +7,7 @@ use Rattle.journal.specs.Calls.{or_fault, kept_from}
 use Rattle.journal.proofs.Walks.{Leads, first_some, kept_all, walk, inside, next_taken, drop_end, drop_some}
 use Rattle.rules.specs.declared.fault.ArchiveFault.{ArchiveFault}
 use Rattle.rules.specs.State.{Kind, filed, records_of}
-use Rattle.rules.specs.Calls.{row_fault}
+use Rattle.rules.specs.Calls.{row_fault, first_fault}
 use Rattle.index_layout.specs.Views.{View}
 use Rattle.archive_layout.specs.Fit.{Coding, Agree}
 use Rattle.archive_layout.specs.Loads.{with_part, SectionReady, IndexesSection, IndexReady, IndexesAll}
@@ -17,7 +17,7 @@ use Rattle.std.proofs.lemmas.Bool.{cond_both}
 use Rattle.archive_layout.proofs.Sections.{first_rows}
 use Rattle.archive_layout.proofs.Counting.{length_filed, rising_weaker}
 use Rattle.archive_layout.proofs.Searches.{records_most}
-use Rattle.archive_layout.proofs.Loads.{first_fault, fault-++, records-++}
+use Rattle.archive_layout.proofs.Loads.{fault-++, records-++}
 
 -- What is true of sections is true of the first of them.
 all_take : (P : Section → Type 0) (i : ℕ) (xs : List Section) → AllByRecursion P xs → AllByRecursion P (take i xs)

@@ -3,11 +3,11 @@ use Rattle.std.proofs.Common.{◌≡◌, ℕ, List, length, None, Ok, Err, Resul
 use Rattle.journal.specs.Calls.{or_fault}
 use Rattle.rules.specs.declared.fault.ArchiveFault.{ArchiveFault}
 use Rattle.rules.specs.State.{Kind, State, records_of}
-use Rattle.rules.specs.Calls.{row_fault, loaded}
+use Rattle.rules.specs.Calls.{load_check, row_fault, loaded}
 use Rattle.index_layout.specs.Views.{View, free_view}
 use Rattle.index_layout.specs.Held.{found}
 use Rattle.archive_layout.specs.Fit.{Coding, Fit}
-use Rattle.archive_layout.specs.Loads.{load_check, IndexReady, IndexesAll}
+use Rattle.archive_layout.specs.Loads.{IndexReady, IndexesAll}
 use Rattle.archive_layout.proofs.Fits.{ok_none, err_some}
 use Rattle.archive_layout.proofs.Loads.{all_homed}
 use Rattle.archive_layout.proofs.Prunes.{LoadIs, Passes, passes, load_refused, load_accepted}

@@ -10,7 +10,8 @@ use Rattle.rules.specs.declared.fault.ArchiveFault.{ArchiveFault}
 use Rattle.rules.specs.declared.fault.ArchiveFault.TheVariants.{WrongSection, Key}
 use Rattle.keys.specs.declared.fault.KeyFault.TheVariants.{StoredKey}
 use Rattle.rules.specs.State.{Kind, Record, section_of, number_of, filed, records_of}
-use Rattle.rules.specs.Calls.{row_fault, is_key}
+use Rattle.rules.specs.Calls.{row_fault, first_fault, is_key}
+use Rattle.law.proofs.FirstLoads.{none_both}
 use Rattle.index_layout.specs.Views.{View, Apart}
 use Rattle.index_layout.specs.Held.{found, total, one, has_room, Noted}
 use Rattle.archive_layout.specs.Fit.{Coding, expected, offset_of, code_of, bucket_by, Agree, Homed}
@@ -21,10 +22,6 @@ use Rattle.archive_layout.proofs.Fits.{agree_placed, takes_row, offset_near, tot
 use Rattle.archive_layout.proofs.Rests.{drop_at, nth_inside, nth_there}
 
 -- Faults of a list of rows, one part after the other.
-abbrev pub first_fault : Option ArchiveFault → Option ArchiveFault → Option ArchiveFault
-first_fault None o = o
-first_fault (Some f) o = Some f
-
 module _ (kind : Kind) (l : ℕ) where
   pub fault-++ : (us bs : List Record) → row_fault kind l (us ++ bs) ≡ first_fault (row_fault kind l us) (row_fault kind l bs)
   fault-++ [] bs = refl
@@ -50,10 +47,6 @@ module _ (kind : Kind) (l : ℕ) where
       by (inr e) (inl f) =
           let k : ◌≡◌ {A = Option ArchiveFault} (Some (WrongSection a.start a.position)) None = sym (cond-false _ _ _ e ∙ cond-true _ _ _ f) ∙ h in let z : ◌≡◌ {A = ℕ} 0 1 = cc in absurd (omega arith)
       by (inr e) (inr f) = eqb-true _ _ (not-false _ f)
-
-  none_both : (a b : Option ArchiveFault) → first_fault a b ≡ None → (a ≡ None) × (b ≡ None)
-  none_both None b h = (refl, h)
-  none_both (Some f) b h = let z : ◌≡◌ {A = ℕ} 0 1 = cc in absurd (omega arith)
 
   rows_home : (s p : ℕ) (rs : List Row) → row_fault kind l (filed s p rs) ≡ None → AllByRecursion (λ r. section_of l r.label.number ≡ s) rs
   rows_home s p [] h = tt

@@ -10,11 +10,10 @@ use Rattle.rules.specs.declared.answer.Counts.{Counts}
 use Rattle.rules.specs.declared.fault.ArchiveFault.{ArchiveFault}
 use Rattle.rules.specs.declared.fault.ArchiveFault.TheVariants.{SectionSize, JournalLimits, KeyWidth}
 use Rattle.rules.specs.State.{Kind, State, section_of, records_of, kept, distinct}
-use Rattle.rules.specs.Calls.{if_loaded, changed_if_loaded, floor_reaches, struck, prune_at, prune_answer, prune_next, prune_after, counts_answer, archive_limits, row_fault, fresh_load_fault, load_fault_by, load_fault, load_answer, loaded, load_after}
+use Rattle.rules.specs.Calls.{if_loaded, changed_if_loaded, floor_reaches, struck, prune_at, prune_answer, prune_next, prune_after, counts_answer, archive_limits, load_check, first_fault, row_fault, fresh_load_fault, load_fault_by, load_fault, load_answer, loaded, load_after}
 use Rattle.index_layout.specs.Views.{View, Apart}
 use Rattle.index_layout.specs.Held.{total, under, records, numbers}
 use Rattle.archive_layout.specs.Fit.{Coding, Fit}
-use Rattle.archive_layout.specs.Loads.{load_check}
 use Rattle.archive_layout.proofs.Counting.{those_old, counted_records, counted_numbers}
 
 pub record PruneIs (s s' : State) (min : ℕ) (r : Result Pruned ArchiveFault) : Type 0 where
@@ -66,14 +65,7 @@ module _ (kind : Kind) (s : State) (l : ℕ) where
 
     -- What the check before any row refuses, the load does; what it lets pass is decided by the rows.
     pub fault_checked : (f : ArchiveFault) → load_check l s.journal.limits kind.width ≡ Some f → load_fault kind s l ≡ Some f
-    fault_checked f e = new_fault ∙ by (not (between 1 l 64)) (not (archive_limits s.journal.limits)) (not (eqb kind.width s.journal.limits.width)) e
-      where
-        by : (a b c : Bool) → cond a (Some SectionSize) (cond b (Some JournalLimits) (cond c (Some KeyWidth) None)) ≡ Some f
-            → cond a (Some SectionSize) (cond b (Some JournalLimits) (cond c (Some KeyWidth) (row_fault kind l (records_of s.journal.sections)))) ≡ Some f
-        by true b c e = e
-        by false true c e = e
-        by false false true e = e
-        by false false false e = let z : ◌≡◌ {A = ℕ} 0 1 = cc in absurd (omega arith)
+    fault_checked f e = new_fault ∙ ap (λ o. first_fault o (row_fault kind l (records_of s.journal.sections))) e
 
     pub record Passes : Type 0 where
       pub some : 0 < l
@@ -100,5 +92,5 @@ module _ (kind : Kind) (s : State) (l : ℕ) where
               few = leb-true _ _ p.1;
               limits = b;
               wide = sym (eqb-true _ _ c);
-              rows = new_fault ∙ cond-false _ _ _ (ap not a) ∙ cond-false _ _ _ (ap not b) ∙ cond-false _ _ _ (ap not c);
+              rows = new_fault ∙ ap (λ o. first_fault o (row_fault kind l (records_of s.journal.sections))) e;
             }

@@ -1,6 +1,4 @@
 -- What a load does row by row, while it fills an index that was empty.
---   load_check l m w    why a load is refused before any row is looked at, by the section size l, the journal's limits m and
---                       the kind's width w; None where it is not
 --   with_part ys s rs   the sections ys, and behind them the rows rs so far of the section s
 --   IndexesRow          what taking one row into the index answers and does
 --   SectionReady        what taking the rows of a section rests on: the sections ys, all before it, are in the index
@@ -9,24 +7,15 @@
 --   IndexesAll          what that answers and does
 use Rattle.std.specs.Prelude.{◌≡◌, ℕ, ◌<◌, ◌≤◌, true, cond, not, List, [], ◌∷◌, ◌++◌, length, Some, None, Option, Result, ◌==◌}
 use Rattle.std.specs.List.{AllByRecursion}
-use Rattle.journal.specs.declared.limits.Limits.{Limits}
-use Rattle.journal.specs.Making.{between}
 use Rattle.journal.specs.Meaning.{Meaning, Section, Row, rows_of, Rising}
 use Rattle.journal.specs.Calls.{or_fault}
 use Rattle.rules.specs.declared.fault.ArchiveFault.{ArchiveFault}
-use Rattle.rules.specs.declared.fault.ArchiveFault.TheVariants.{SectionSize, JournalLimits, KeyWidth}
 use Rattle.rules.specs.State.{Kind, filed, records_of}
 use Rattle.rules.specs.Calls.{row_fault, archive_limits}
 use Rattle.index_layout.specs.Views.{View, free_view}
 use Rattle.index_layout.specs.Held.{found, Noted}
 use Rattle.archive_layout.specs.Fit.{Coding, offset_of, code_of, bucket_by, Agree}
 use Rattle.archive_layout.specs.Walks.{filed_at}
-
-abbrev pub load_check : ℕ → Limits → ℕ → Option ArchiveFault
-load_check l m w =
-    cond (not (between 1 l 64)) (Some SectionSize)
-    (cond (not (archive_limits m)) (Some JournalLimits)
-    (cond (not (w == m.width)) (Some KeyWidth) None))
 
 abbrev pub with_part : List Section → ℕ → List Row → List Section
 with_part ys s [] = ys

@@ -13,11 +13,12 @@ use Rattle.rules.specs.declared.answer.Put.TheVariants.{BelowFloor, AlreadyThere
 use Rattle.rules.specs.declared.answer.Pruned.TheVariants.{Unchanged, Struck}
 use Rattle.rules.specs.declared.answer.Reply.TheVariants as reply
 use Rattle.rules.specs.declared.fault.ArchiveFault.{ArchiveFault}
-use Rattle.rules.specs.declared.fault.ArchiveFault.TheVariants.{SectionSize, JournalLimits, KeyWidth, WrongSection, Key}
+use Rattle.rules.specs.declared.fault.ArchiveFault.TheVariants.{SectionSize, WrongSection, Key}
 use Rattle.rules.specs.State.{Kind, State, section_of, or_zero, Record, number_of, filed, records_of}
-use Rattle.rules.specs.Calls.{Among, is_key, archive_limits, row_fault, fresh_load_fault, loaded, stored_by, is_below, is_there, put_at, put_next, with_journal, floor_reaches}
+use Rattle.rules.specs.Calls.{Among, is_key, load_check, row_fault, fresh_load_fault, loaded, stored_by, is_below, is_there, put_at, put_next, with_journal, floor_reaches}
 use Rattle.rules.specs.Steps.{Handed, Answer, Event, said, Answers, Change, loads, puts, prunes, asks, change_of, changed, next, Follows}
 use Rattle.rules.specs.History.{Book, blank, is_accepted, is_stored, rows_in, first_book, with_arrival, raised, from_number, struck_below, struck_by, noted_by, noted, book_after}
+use Rattle.law.proofs.FirstLoads.{none_both}
 use Rattle.law.proofs.Lists.{among_left, among_right, among_either, those_all, those_among}
 use Rattle.law.proofs.Changes.{at, SaysChange, says_change, SaysFirst, says_first}
 use Rattle.law.proofs.Arrivals.{Held, Home, held_loaded, held_put, held_pruned}
@@ -71,10 +72,9 @@ home_of l (x ∷ xs) h = (
 
 load_sees : (kind : Kind) (m : Meaning) (l : ℕ) → fresh_load_fault kind m l ≡ None → (0 < l) × Home l m.sections
 load_sees kind m l e =
-    let a = first_none (not (between 1 l 64)) SectionSize _ e in
-    let b = first_none (not (archive_limits m.limits)) JournalLimits _ a.1 in
-    let c = first_none (not (eqb kind.width m.limits.width)) KeyWidth (row_fault kind l (records_of m.sections)) b.1 in
-    (leb-true 1 l (and_parts (leb 1 l) (leb l 64) (not-false (between 1 l 64) a.0)).0, home_of l m.sections (rows_homed kind l (records_of m.sections) c.1))
+    let k = none_both (load_check l m.limits kind.width) (row_fault kind l (records_of m.sections)) e in
+    let a = first_none (not (between 1 l 64)) SectionSize _ k.0 in
+    (leb-true 1 l (and_parts (leb 1 l) (leb l 64) (not-false (between 1 l 64) a.0)).0, home_of l m.sections (rows_homed kind l (records_of m.sections) k.1))
 
 -- The floor after a prune.
 reaches_le : (f : Option ℕ) (m : ℕ) → floor_reaches f m ≡ true → (m ≤ or_zero f) × (Some (raised f m) ≡ f)

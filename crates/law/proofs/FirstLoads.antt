@@ -11,7 +11,7 @@ use Rattle.rules.specs.declared.answer.Reply.TheVariants as reply
 use Rattle.rules.specs.declared.fault.ArchiveFault.{ArchiveFault}
 use Rattle.rules.specs.declared.fault.ArchiveFault.TheVariants.{SectionSize, JournalLimits, KeyWidth, WrongSection, Key}
 use Rattle.rules.specs.State.{Kind, section_of, Record, number_of, filed, records_of}
-use Rattle.rules.specs.Calls.{Among, archive_limits, is_key, row_fault, fresh_load_fault}
+use Rattle.rules.specs.Calls.{Among, archive_limits, is_key, row_fault, first_fault, fresh_load_fault}
 use Rattle.rules.specs.Steps.{Handed, Answer, answer, said}
 use Rattle.rules.specs.History.{rows_in}
 use Rattle.rules.specs.Told.{plain, Ranges, SuitsArchive, RowAt, Loadable, Hinders, ToldLoad}
@@ -19,6 +19,11 @@ use Rattle.law.proofs.Lists.{among_left, among_right, among_either}
 
 none_some : {X : Type 0} {Y : Type 0} (o : Option X) (x : X) → o ≡ Some x → o ≡ None → Y
 none_some o x e n = let z : ◌≡◌ {A = ℕ} 0 1 = cc in let v : ⊥ = omega arith in absurd v
+
+-- Of two reasons one after the other there is none where neither is one.
+pub none_both : (a b : Option ArchiveFault) → first_fault a b ≡ None → (a ≡ None) × (b ≡ None)
+none_both None b e = (refl, e)
+none_both (Some f) b e = none_some (Some f) f refl e
 
 -- Rows by their places.
 filed_row : (s p : ℕ) (rs : List Row) (q : Record) → Among q (filed s p rs) → (i : ℕ) × (q.start ≡ s) × (q.position ≡ p + i) × (slice_get rs i ≡ Some q.row)
@@ -122,7 +127,7 @@ module _ (kind : Kind) (m : Meaning) (l : ℕ) (h : Handed) (a : Answer) where
     where
       by : (x y z : Bool) → between 1 l 64 ≡ x → archive_limits m.limits ≡ y → eqb kind.width m.limits.width ≡ z
           → (o : Option ArchiveFault) → Looked kind l (records_of m.sections) o
-          → a ≡ answer (said reply.Loaded (or_fault (cond (not x) (Some SectionSize) (cond (not y) (Some JournalLimits) (cond (not z) (Some KeyWidth) o))) n)) h.bytes h.places
+          → a ≡ answer (said reply.Loaded (or_fault (first_fault (cond (not x) (Some SectionSize) (cond (not y) (Some JournalLimits) (cond (not z) (Some KeyWidth) None))) o) n)) h.bytes h.places
           → ToldLoad kind m l h a
       by false y z ex ey ez o k w = inr (SectionSize, (λ r. both_ways _ ex (in_range 1 l 64 r)), w)
       by true false z ex ey ez o k w = inr (JournalLimits, (λ r. both_ways _ ey (is_suited m.limits r)), w)

@@ -1,5 +1,7 @@
 -- The rules: what each call answers, what it leaves in its buffer, and the state after it.
 --   if_loaded o f        f of the section size, or the refusal of a call before any load
+--   load_check l m w     why a load is refused before any row is looked at, by the section size l, the journal's limits m and the
+--                        kind's width w, or None; row_fault is why by its rows, and first_fault a b is a, or else b
 --   load_fault           why a load is refused, the first reason in its order, or None
 --   load_answer          how many records a load finds; load_after is the state after it
 --   put_answer           multi: a put that does not ask whether a record has the number; put_after is the state after it
@@ -54,12 +56,18 @@ row_fault kind l (r ∷ rs) =
     (cond (not (section_of l (number_of r) == r.start)) (Some (WrongSection r.start r.position))
     (row_fault kind l rs))
 
-abbrev pub fresh_load_fault : Kind → Meaning → ℕ → Option ArchiveFault
-fresh_load_fault kind m l =
+abbrev pub load_check : ℕ → Limits → ℕ → Option ArchiveFault
+load_check l m w =
     cond (not (between 1 l 64)) (Some SectionSize)
-    (cond (not (archive_limits m.limits)) (Some JournalLimits)
-    (cond (not (kind.width == m.limits.width)) (Some KeyWidth)
-    (row_fault kind l (records_of m.sections))))
+    (cond (not (archive_limits m)) (Some JournalLimits)
+    (cond (not (w == m.width)) (Some KeyWidth) None))
+
+abbrev pub first_fault : Option ArchiveFault → Option ArchiveFault → Option ArchiveFault
+first_fault None o = o
+first_fault (Some f) o = Some f
+
+abbrev pub fresh_load_fault : Kind → Meaning → ℕ → Option ArchiveFault
+fresh_load_fault kind m l = first_fault (load_check l m.limits kind.width) (row_fault kind l (records_of m.sections))
 
 abbrev pub load_fault_by : Kind → Option ℕ → Meaning → ℕ → Option ArchiveFault
 load_fault_by kind None m l = fresh_load_fault kind m l

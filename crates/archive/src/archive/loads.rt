@@ -2,8 +2,7 @@
 
 ghost use Rattle.std.specs.Prelude.{◌≡◌};
 ghost use Rattle.journal.specs.Calls.{or_fault};
-ghost use Rattle.archive_layout.specs.Loads.{load_check};
-ghost use Rattle.rules.specs.Calls.{archive_limits, load_answer, load_after};
+ghost use Rattle.rules.specs.Calls.{archive_limits, load_check, load_answer, load_after};
 ghost use Rattle.archive.specs.Parts.{kind_of};
 ghost use Rattle.archive.specs.Archives.{Does};
 

@@ -4,9 +4,8 @@ use Rattle.journal.specs.Meaning.{Lawful}
 use Rattle.journal.specs.Calls.{or_fault}
 use Rattle.index_layout.specs.Held.{found}
 use Rattle.index.specs.Slots.{views}
-use Rattle.rules.specs.Calls.{with_journal, loaded}
+use Rattle.rules.specs.Calls.{load_check, with_journal, loaded}
 use Rattle.archive_layout.specs.Fit.{Fit, FitBy}
-use Rattle.archive_layout.specs.Loads.{load_check}
 use Rattle.archive_layout.proofs.Loaded.{ready, indexed_fit, indexed, not_indexed}
 use Rattle.archive.specs.Parts.{kind_of, coding_of}
 use Rattle.archive.specs.Archives.{state_of, Fits}
