@@ -1,6 +1,6 @@
 -- A first load is accepted where it may be, and else refused with what hinders it. Assumes nothing.
-use Rattle.std.proofs.Common.{◌≡◌, ℕ, zero, suc, ◌+◌, ◌≤◌, Bool, true, false, cond, not, ◌&&◌, leb, eqb, ◌⊎◌, List, [], ◌∷◌, length, Some, None, Ok, Err, Option, sym, refl, ap, ◌∙◌, subst, inl, inr, arith}
-use Rattle.std.proofs.lemmas.Bool.{both_ways, eq-eqb, eqb-true, eqb-false, le-leb, leb-true, and_parts, and_from}
+use Rattle.std.proofs.Common.{◌≡◌, ℕ, zero, suc, ◌+◌, Bool, true, false, cond, not, ◌&&◌, leb, eqb, ◌⊎◌, List, [], ◌∷◌, length, Some, None, Option, sym, refl, ap, ◌∙◌, subst, inl, inr, arith}
+use Rattle.std.proofs.lemmas.Bool.{both_ways, eqb-true, eqb-false, le-leb, leb-true, and_parts, and_from}
 use Rattle.std.specs.List.{slice_get}
 use Rattle.keys.specs.declared.fault.KeyFault.TheVariants.{StoredKey}
 use Rattle.journal.specs.declared.limits.Limits.{Limits}
@@ -14,7 +14,7 @@ use Rattle.rules.specs.State.{Kind, section_of, Record, number_of, filed, record
 use Rattle.rules.specs.Calls.{Among, archive_limits, is_key, row_fault, first_fault, fresh_load_fault}
 use Rattle.rules.specs.Steps.{Handed, Answer, answer, said}
 use Rattle.rules.specs.History.{rows_in}
-use Rattle.rules.specs.Told.{plain, Ranges, SuitsArchive, RowAt, Loadable, Hinders, ToldLoad}
+use Rattle.rules.specs.Told.{plain, Ranges, SuitsArchive, Loadable, Hinders, ToldLoad}
 use Rattle.law.proofs.Lists.{among_left, among_right, among_either}
 
 none_some : {X : Type 0} {Y : Type 0} (o : Option X) (x : X) → o ≡ Some x → o ≡ None → Y

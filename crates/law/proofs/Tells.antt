@@ -220,6 +220,7 @@ module _ (l : ℕ) (K : List Record) (xs : List Section) (up : journal.Rising 0 
             below = ((λ _. omega (arith, k, floors)), (λ _. y));
             there = ((λ z. no_zero (let v : ◌≡◌ {A = ℕ} 0 1 = cc in v)), (λ z. let v : ⊥ = omega (arith, k, floors, z.0) in absurd v));
             stored = λ t i z. no_zero (let v : ◌≡◌ {A = ℕ} 0 1 = cc in v);
+            otherwise = λ hi free. let v : ⊥ = omega (arith, k, floors, hi) in absurd v;
             buffers = e ∙ ap (λ x. answer x h.bytes h.places) (sym y);
           }
       by false true o lo th e =
@@ -230,6 +231,7 @@ module _ (l : ℕ) (K : List Record) (xs : List Section) (up : journal.Rising 0 
             below = ((λ z. no_zero (let v : ◌≡◌ {A = ℕ} 0 1 = cc in v)), (λ z. let v : ⊥ = omega (arith, k, floors, z) in absurd v));
             there = ((λ _. (omega (arith, k, floors), m.0, m.1)), (λ _. y));
             stored = λ t i z. no_zero (let v : ◌≡◌ {A = ℕ} 0 1 = cc in v);
+            otherwise = λ hi free. absurd (free m);
             buffers = e ∙ ap (λ x. answer x h.bytes h.places) (sym y);
           }
       by false false None lo th e =
@@ -239,6 +241,7 @@ module _ (l : ℕ) (K : List Record) (xs : List Section) (up : journal.Rising 0 
             below = ((λ z. no_zero (let v : ◌≡◌ {A = ℕ} 0 1 = cc in v)), (λ z. let v : ⊥ = omega (arith, k, floors, z) in absurd v));
             there = ((λ z. no_zero (let v : ◌≡◌ {A = ℕ} 0 1 = cc in v)), (λ z. absurd (both_ways (not multi && some_in (those (bears_number n) R)) th (bears z.1 z.2))));
             stored = λ t i z. (let u : t ≡ s = cc in u, (let u : i ≡ p = cc in u) ∙ pq);
+            otherwise = λ hi free. inl (y ∙ ap (λ i. Some (Ok (reply.Put (Stored s i)))) pq);
             buffers = e ∙ ap (λ x. answer x h.bytes h.places) (sym y);
           }
       by false false (Some x) lo th e =
@@ -248,6 +251,7 @@ module _ (l : ℕ) (K : List Record) (xs : List Section) (up : journal.Rising 0 
             below = ((λ z. no_zero (let v : ◌≡◌ {A = ℕ} 0 1 = cc in v)), (λ z. let v : ⊥ = omega (arith, k, floors, z) in absurd v));
             there = ((λ z. no_zero (let v : ◌≡◌ {A = ℕ} 0 1 = cc in v)), (λ z. absurd (both_ways (not multi && some_in (those (bears_number n) R)) th (bears z.1 z.2))));
             stored = λ t i z. no_zero (let v : ◌≡◌ {A = ℕ} 0 1 = cc in v);
+            otherwise = λ hi free. inr (x, y);
             buffers = e ∙ ap (λ x. answer x h.bytes h.places) (sym y);
           }
 

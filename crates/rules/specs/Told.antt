@@ -18,6 +18,7 @@ use Rattle.std.specs.List.{slice_get}
 use Rattle.keys.specs.declared.fault.KeyFault.{KeyFault}
 use Rattle.keys.specs.declared.fault.KeyFault.TheVariants.{NotAKey, StoredKey}
 use Rattle.journal.specs.declared.limits.Limits.{Limits}
+use Rattle.journal.specs.declared.fault.JournalFault.{JournalFault}
 use Rattle.journal.specs.declared.fault.JournalFault.TheVariants.{Short, Damaged}
 use Rattle.journal.specs.Meaning.{Meaning, Section, Row, Content, sound, damaged}
 use Rattle.rules.specs.declared.answer.Place.{Place}
@@ -145,11 +146,15 @@ abbrev pub ToldCounts : List Record → Option ℕ → Handed → Answer → Typ
 ToldCounts rs floor h a =
     (d : ℕ) × Different d (λ _. Unit {0}) rs × (a ≡ plain h (reply.Counted (record { records = length rs; numbers = d; floor = floor })))
 
--- Put: n is the number, s its section, and position how many kept records of the section there are.
+-- Put: n is the number, s its section, and position how many kept records of the section there are. What is neither below the
+-- floor nor there already is stored, or the journal refuses it.
 pub record ToldPut (multi : Bool) (n s : ℕ) (floor : Option ℕ) (rs : List Record) (position : ℕ) (h : Handed) (a : Answer) : Type 0 where
   pub below : Exactly (a.says ≡ Some (Ok (reply.Put BelowFloor))) (n < or_zero floor)
   pub there : Exactly (a.says ≡ Some (Ok (reply.Put AlreadyThere))) ((or_zero floor ≤ n) × (multi ≡ false) × Borne (BearsNumber n) rs)
   pub stored : (t p : ℕ) → a.says ≡ Some (Ok (reply.Put (Stored t p))) → (t ≡ s) × (p ≡ position)
+  pub otherwise :
+      or_zero floor ≤ n → ((multi ≡ false) × Borne (BearsNumber n) rs → ⊥)
+      → (a.says ≡ Some (Ok (reply.Put (Stored s position)))) ⊎ ((f : JournalFault) × (a.says ≡ Some (Err (Journal f))))
   pub buffers : a ≡ answer a.says h.bytes h.places
 
 -- Prune, by its minimum rounded down.
