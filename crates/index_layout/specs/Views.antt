@@ -2,7 +2,9 @@
 --   View               whether the slot is used, where its section starts, and by position the offset of each record's number
 --                      from the start, its translated key and its bucket
 --   slot_count         how many slots there are; row_count and offset_count are what one holds at most
---   bucket_of h        the bucket of the hash h
+--   bucket_of h        the bucket of the hash h: the seven highest of the 64 bits of h times an odd number, that of the golden
+--                      section of 2 ^ 64. Each bit of h has its part in these, so hashes that end alike, as those of box
+--                      numbers by their leading bytes do, still lie in many buckets
 --   free_view          a free slot
 --   open_view s        a slot just taken for the section that starts at s
 --   grown v o c b      the slot v with one record more
@@ -13,7 +15,7 @@
 --   view_at vs i       the slot i of vs
 --   Holds vs i s       the slot i of vs holds the section that starts at s
 --   Apart vs           no start is held twice
-use Rattle.std.specs.Prelude.{◌≡◌, ℕ, ◌%◌, ◌<◌, Bool, true, false, cond, ◌&&◌, List, [], ◌∷◌, ◌++◌, length, None, Option, ◌==◌, nat_lt, slice_index, slice_index_or}
+use Rattle.std.specs.Prelude.{◌≡◌, ℕ, ◌*◌, ◌/◌, ◌%◌, ◌^◌, ◌<◌, Bool, true, false, cond, ◌&&◌, List, [], ◌∷◌, ◌++◌, length, None, Option, ◌==◌, nat_lt, slice_index, slice_index_or}
 use Rattle.index_layout.specs.Links.{linked, earliest, following, matching}
 
 pub record View : Type 0 where
@@ -33,7 +35,7 @@ abbrev pub offset_count : ℕ
 offset_count = 64
 
 abbrev pub bucket_of : ℕ → ℕ
-bucket_of h = h % 128
+bucket_of h = h * 11400714819323198485 % 2 ^ 64 / 2 ^ 57
 
 abbrev pub free_view : View
 free_view = record { used = false; start = 0; offsets = []; codes = []; buckets = [] }

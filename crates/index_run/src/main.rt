@@ -49,11 +49,11 @@ const STRETCHES: [Stretch; 4] = [
     },
 ];
 
-/// A translated key and a hash; the hashes fall into two buckets.
+/// A translated key and a hash; the hashes fall into two buckets, 0 into the first and the others into the last.
 fn key(random: &mut SplitMix, spread: u64) -> KeyCode {
     KeyCode {
         code: random.below(4),
-        hash: random.below(spread).saturating_mul(64),
+        hash: random.below(spread).saturating_mul(377),
     }
 }
 

@@ -4,6 +4,11 @@ use index::index::Tally;
 use index::key_code::KeyCode;
 use std::alloc::{AllocError, Global};
 
+/// The bucket of a hash, in numbers so large that none of the product is lost: what 2^64 leaves of it, by 2^57.
+fn bucket(hash: u64) -> u128 {
+    u128::from(hash) * 11_400_714_819_323_198_485 % (1 << 64) / (1 << 57)
+}
+
 /// The position is how many records of the section came before.
 #[derive(Clone, Copy, Debug)]
 pub struct Record {
@@ -23,7 +28,9 @@ pub struct Kept {
 impl Record {
     /// Whether it lies in a section and has a translated key, in the bucket of its hash.
     pub fn bears(&self, start: u64, key: KeyCode) -> bool {
-        self.start == start && self.key.code == key.code && self.key.hash % 128 == key.hash % 128
+        self.start == start
+            && self.key.code == key.code
+            && bucket(self.key.hash) == bucket(key.hash)
     }
 }
 
@@ -66,7 +73,7 @@ impl Model {
         let start = self.start_of(slot)?;
         let mut records = self.records.iter();
         let one = records.find(|one| one.start == start && one.position == position)?;
-        if one.key.hash % 128 != key.hash % 128 {
+        if bucket(one.key.hash) != bucket(key.hash) {
             return None;
         }
         let mut before = None;
