@@ -4,8 +4,8 @@
 ghost use Rattle.std.specs.Prelude.{◌≡◌, ℕ, ◌%◌, ◌^◌, ◌<◌, List, length, if◌then◌else◌, Some, None, MatchOption};
 ghost use Rattle.journal.specs.Meaning.{Meaning, Row, Lawful, rows_of, row_at};
 ghost use Rattle.rules.specs.State.{filed, records_of, those};
-ghost use Rattle.index_layout.specs.Views.{view_at};
-ghost use Rattle.index_layout.specs.Held.{FirstFrom};
+ghost use Rattle.index_layout.specs.Views.{view_at, bucket_of};
+ghost use Rattle.index_layout.specs.Candidates.{FirstWith};
 ghost use Rattle.index.specs.Slots.{views};
 ghost use Rattle.archive_layout.specs.Fit.{Coding, full_view};
 ghost use Rattle.archive_layout.specs.Walks.{filed_at};
@@ -83,11 +83,12 @@ pub(crate) struct Search<'a> {
 }
 
 impl Search<'_> {
-    // The first slot whose section starts at or above `from`, with the start; none where there is no such number.
-    fn slot_from(&self, from: Option<u64>) -> Option<(usize, u64)>
-        ensures { MatchOption from (result ≡ None) (λ n. FirstFrom (views self.now.index.now) n result) }
+    // The slot of the first section that starts at or above `from` and has a candidate, with the start; none where there is no
+    // such number.
+    fn slot_with(&self, from: Option<u64>) -> Option<(usize, u64)>
+        ensures { MatchOption from (result ≡ None) (λ n. FirstWith (views self.now.index.now) self.now.wanted.coded.code (bucket_of self.now.wanted.coded.hash) n result) }
     {
-        self.index.first_from(from?)
+        self.index.first_with(from?, self.wanted.coded)
     }
 
     // The least bearer of one section, whose slot is given with its start.
@@ -122,9 +123,10 @@ impl Search<'_> {
         ensures { Reads J.Journal.fits J.Journal.meaning journal.old journal.new (λ m. (k : Coding) (width : ℕ) → Knows k width m self.now → result ≡ spot_in (least_from (sought self.now.wanted.key.now after) m.sections from)) }
     {
         let mut from = Some(from);
-        // Counted, since a walk over starts has to be seen to end; there are sixteen slots.
+        // Counted, since a walk over starts has to be seen to end; there are sixteen slots. What it passes over has no candidate,
+        // and so no bearer.
         for turn in 0..16usize {
-            let (slot, start) = self.slot_from(from)?;
+            let (slot, start) = self.slot_with(from)?;
             if let Some(place) = self.least_in(journal, slot, start, after) {
                 return Some(Spot { start, place });
             }

@@ -7,6 +7,7 @@ pub mod Numbers
 pub mod Counting
 pub mod Least
 pub mod Sections
+pub mod Offers
 pub mod Keys
 pub mod Search
 pub mod Listing

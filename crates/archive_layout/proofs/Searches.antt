@@ -3,28 +3,29 @@ use Rattle.std.proofs.Common.{◌≡◌, ℕ, ◌+◌, ◌*◌, ◌%◌, ◌^◌
 use Rattle.std.specs.List.{slice_get, AllByRecursion}
 use Rattle.std.proofs.lemmas.Bool.Decides.{nat_tests}
 use Rattle.std.proofs.lemmas.List.{nil_from_length}
-use Rattle.journal.specs.Meaning.{Meaning, Section, Row, Within, Rising, rows_of, first_from}
+use Rattle.journal.specs.Meaning.{Meaning, Section, Row, Within, Rising, rows_of}
 use Rattle.journal.specs.Calls.{kept_from}
 use Rattle.journal.specs.declared.limits.Limits.{Limits}
-use Rattle.journal.proofs.Walks.{first_some, first_none, kept_all, none_above, from_or_end}
+use Rattle.journal.proofs.Walks.{kept_all, none_above, from_or_end}
 use Rattle.rules.specs.declared.answer.Place.{Place}
 use Rattle.rules.specs.State.{Record, place_of, filed, records_of, those, bears_key}
 use Rattle.law.proofs.Lists.{those_among, length_those}
 use Rattle.law.proofs.Sorted.{length_sorted}
-use Rattle.index_layout.specs.Views.{View, view_at, Apart}
-use Rattle.index_layout.specs.Held.{FirstAt, FirstFrom}
+use Rattle.index_layout.specs.Views.{View, view_at, Apart, bucket_of}
+use Rattle.index_layout.specs.Candidates.{FirstOffer, FirstWith}
 use Rattle.archive_layout.specs.declared.spot.Spot.{Spot}
 use Rattle.archive_layout.specs.Fit.{Coding, full_view, Homed}
 use Rattle.archive_layout.specs.Walks.{filed_at, rest, below_link}
 use Rattle.archive_layout.specs.Keys.{start_behind, sought, front, least, least_from, listed_from, place_in, spot_in, lower, in_place, HandledAt, Coded}
 use Rattle.archive_layout.specs.Promises.{Known}
-use Rattle.archive_layout.proofs.Fits.{small, some_rows}
+use Rattle.archive_layout.proofs.Fits.{small}
 use Rattle.archive_layout.proofs.Rests.{nth_there, rest_past}
 use Rattle.archive_layout.proofs.Keys.{long, skipped_sought, better}
 use Rattle.archive_layout.proofs.Handles.{WalksOn}
 use Rattle.archive_layout.proofs.Least.{or_else, least_among}
-use Rattle.archive_layout.proofs.Sections.{slot_view, first_slot, no_slot_from}
-use Rattle.archive_layout.proofs.Search.{filed_start, least_step, from_there}
+use Rattle.archive_layout.proofs.Sections.{slot_view}
+use Rattle.archive_layout.proofs.Offers.{Reached, offer_reached, none_offered}
+use Rattle.archive_layout.proofs.Search.{filed_start, from_there}
 use Rattle.archive_layout.proofs.Numbers.{homed_records}
 use Rattle.archive_layout.proofs.Counting.{length_filed, rising_weaker}
 use Rattle.archive_layout.proofs.Listing.{next_places, from_none, front_listed, front_some, front_none, front_inside}
@@ -75,62 +76,63 @@ place_some : (o : Option Record) (p : Place) → Some p ≡ place_in o → (r : 
 place_some None p h = let z : ◌≡◌ {A = ℕ} 0 1 = cc in absurd (omega arith)
 place_some (Some r) p h = let e : place_of r ≡ p = cc in (r, refl, e)
 
--- What an index tells of its first slot from a number on, or from none.
-abbrev pub SlotFrom : List View → Option ℕ → Option (ℕ × ℕ) → Type 0
-SlotFrom vs from r = MatchOption from (r ≡ None) (λ n. FirstFrom vs n r)
+-- What an index tells of the first section with a candidate from a number on, or from none.
+abbrev pub SlotWith : List View → ℕ → ℕ → Option ℕ → Option (ℕ × ℕ) → Type 0
+SlotWith vs c b from r = MatchOption from (r ≡ None) (λ n. FirstWith vs c b n r)
 
-slot_comes : (vs : List View) (from : Option ℕ) (r : Option (ℕ × ℕ)) (h : ℕ × ℕ) → SlotFrom vs from r → r ≡ Some h → FirstAt vs (from_or_end from) h.0 h.1
-slot_comes vs None r h f e = let z : ◌≡◌ {A = Option (ℕ × ℕ)} (Some h) None = sym e ∙ f in let w : ◌≡◌ {A = ℕ} 0 1 = cc in absurd (omega arith)
-slot_comes vs (Some n) r h f e = subst (FirstFrom vs n) e f
+slot_comes : (vs : List View) (c b : ℕ) (from : Option ℕ) (r : Option (ℕ × ℕ)) (h : ℕ × ℕ) → SlotWith vs c b from r → r ≡ Some h → FirstOffer vs c b (from_or_end from) h.0 h.1
+slot_comes vs c b None r h f e = let z : ◌≡◌ {A = Option (ℕ × ℕ)} (Some h) None = sym e ∙ f in let w : ◌≡◌ {A = ℕ} 0 1 = cc in absurd (omega arith)
+slot_comes vs c b (Some n) r h f e = subst (FirstWith vs c b n) e f
 
 module _ {k : Coding} {width l : ℕ} {m : Meaning} {vs : List View} {key : List ℕ} {code hash : ℕ} (known : Known k width l m vs key code hash) (apart : Apart vs) (sized : length vs ≡ 16)
-    {t : Record → Bool} {begun i : ℕ} (from : Option ℕ) (p : Passed t m begun (from_or_end from) i) where
-  left_none : kept_from m.sections (from_or_end from) ≡ [] → None ≡ spot_in (least_from t m.sections begun)
-  left_none e = sym (ap spot_in (p.same ∙ ap (λ ys. least (those t (records_of ys))) e))
+    (after : Option Place) {begun i : ℕ} (from : Option ℕ) (p : Passed (sought key after) m begun (from_or_end from) i) where
+  left_none : least_from (sought key after) m.sections (from_or_end from) ≡ None → None ≡ spot_in (least_from (sought key after) m.sections begun)
+  left_none e = sym (ap spot_in (p.same ∙ e))
 
-  pub passed_all : 16 ≤ i → None ≡ spot_in (least_from t m.sections begun)
-  passed_all h = left_none (nil_from_length (kept_from m.sections (from_or_end from)) (omega (arith, p.left)))
+  nothing_kept : (n : ℕ) → kept_from m.sections n ≡ [] → least_from (sought key after) m.sections n ≡ None
+  nothing_kept n e = ap (λ ys. least (those (sought key after) (records_of ys))) e
 
-  module _ (r : Option (ℕ × ℕ)) (found : SlotFrom vs from r) where
-    pub passed_rest : r ≡ None → None ≡ spot_in (least_from t m.sections begun)
+  pub passed_all : 16 ≤ i → None ≡ spot_in (least_from (sought key after) m.sections begun)
+  passed_all h = left_none (nothing_kept (from_or_end from) (nil_from_length (kept_from m.sections (from_or_end from)) (omega (arith, p.left))))
+
+  module _ (r : Option (ℕ × ℕ)) (found : SlotWith vs code (bucket_of hash) from r) where
+    pub passed_rest : r ≡ None → None ≡ spot_in (least_from (sought key after) m.sections begun)
     passed_rest e = left_none (by from found)
       where
-        by : (o : Option ℕ) → SlotFrom vs o r → kept_from m.sections (from_or_end o) ≡ []
-        by None f = none_above m.limits (2 ^ 64) m.sections known.lawful.within refl
-        by (Some n) f =
-            first_none n m.sections
-            (no_slot_from k vs m.sections known.fit.held m.floor n m.limits known.lawful.rising (some_rows m.limits m.sections known.lawful.within) sized apart (subst (FirstFrom vs n) e f))
+        by : (o : Option ℕ) → SlotWith vs code (bucket_of hash) o r → least_from (sought key after) m.sections (from_or_end o) ≡ None
+        by None f = nothing_kept (2 ^ 64) (none_above m.limits (2 ^ 64) m.sections known.lawful.within refl)
+        by (Some n) f = none_offered known apart sized after n (subst (FirstWith vs code (bucket_of hash) n) e f)
 
     module _ (slot s : ℕ) (is : r ≡ Some (slot, s)) where
-      first : FirstAt vs (from_or_end from) slot s
-      first = slot_comes vs from r (slot, s) found is
+      first : FirstOffer vs code (bucket_of hash) (from_or_end from) slot s
+      first = slot_comes vs code (bucket_of hash) from r (slot, s) found is
 
-      first_is : first_from m.sections (from_or_end from) ≡ Some s
-      first_is = first_slot k vs m.sections known.fit.held m.floor (from_or_end from) m.limits known.lawful.rising (some_rows m.limits m.sections known.lawful.within) sized apart slot s first
+      reached : Reached (sought key after) m s (from_or_end from)
+      reached = offer_reached known apart sized after (from_or_end from) slot s first
 
-      step : least_from t m.sections begun ≡ or_else (least (those t (filed s 0 (rows_of m.sections s)))) (least_from t m.sections (s + 1))
-      step = p.same ∙ least_step l m.floor m.sections known.fit.some known.lawful.rising known.fit.homed t (from_or_end from) s first_is
+      step : least_from (sought key after) m.sections begun ≡ or_else (least (those (sought key after) (filed s 0 (rows_of m.sections s)))) (least_from (sought key after) m.sections (s + 1))
+      step = p.same ∙ reached.step
 
       pub shown : view_at vs slot ≡ full_view k s (rows_of m.sections s)
-      shown = slot_view k vs m.sections known.fit.held slot s (omega (arith, first.slot, sized)) first.holds apart
+      shown = slot_view k vs m.sections known.fit.held slot s (omega (arith, first.here.slot, sized)) first.here.holds apart
 
-      pub passed_more : (next : Option ℕ) → from_or_end next ≡ s + 1 → None ≡ place_in (least (those t (filed s 0 (rows_of m.sections s)))) → Passed t m begun (from_or_end next) (i + 1)
+      pub passed_more : (next : Option ℕ) → from_or_end next ≡ s + 1 → None ≡ place_in (least (those (sought key after) (filed s 0 (rows_of m.sections s))))
+          → Passed (sought key after) m begun (from_or_end next) (i + 1)
       passed_more next e none =
-          let a = first_some m.floor (from_or_end from) s m.sections known.lawful.rising first_is in
-          let b = ap length a.rest in
           rw e (record {
-            left = omega (arith, p.left, b);
-            same = step ∙ ap (λ o. or_else o (least_from t m.sections (s + 1))) (place_none _ none);
+            left = omega (arith, p.left, reached.fewer);
+            same = step ∙ ap (λ o. or_else o (least_from (sought key after) m.sections (s + 1))) (place_none _ none);
           })
 
-      pub passed_found : (q : Place) → Some q ≡ place_in (least (those t (filed s 0 (rows_of m.sections s)))) → Some (record { start = s; place = q }) ≡ spot_in (least_from t m.sections begun)
+      pub passed_found : (q : Place) → Some q ≡ place_in (least (those (sought key after) (filed s 0 (rows_of m.sections s))))
+          → Some (record { start = s; place = q }) ≡ spot_in (least_from (sought key after) m.sections begun)
       passed_found q found =
           let f = place_some _ q found in
           let z : f.0.start ≡ s = in_section f.0 f.1 in
-          sym (ap spot_in (step ∙ ap (λ o. or_else o (least_from t m.sections (s + 1))) f.1) ∙ ap (λ i. Some (record { start = i; place = place_of f.0 })) z ∙ ap (λ x. Some (record { start = s; place = x })) f.2)
+          sym (ap spot_in (step ∙ ap (λ o. or_else o (least_from (sought key after) m.sections (s + 1))) f.1) ∙ ap (λ i. Some (record { start = i; place = place_of f.0 })) z ∙ ap (λ x. Some (record { start = s; place = x })) f.2)
         where
-          in_section : (r : Record) → least (those t (filed s 0 (rows_of m.sections s))) ≡ Some r → r.start ≡ s
-          in_section r e = filed_start s 0 (rows_of m.sections s) r (those_among t r (filed s 0 (rows_of m.sections s)) (least_among (those t (filed s 0 (rows_of m.sections s))) r e)).0
+          in_section : (r : Record) → least (those (sought key after) (filed s 0 (rows_of m.sections s))) ≡ Some r → r.start ≡ s
+          in_section r e = filed_start s 0 (rows_of m.sections s) r (those_among (sought key after) r (filed s 0 (rows_of m.sections s)) (least_among (those (sought key after) (filed s 0 (rows_of m.sections s))) r e)).0
 
 -- A search behind a place may begin at that place's section.
 pub from_behind : (l low : ℕ) (key : List ℕ) (a : Option Place) (xs : List Section) → 0 < l → Rising low xs → AllByRecursion (Homed l) xs

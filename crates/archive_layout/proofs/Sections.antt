@@ -1,13 +1,12 @@
 -- The index goes through the sections as the journal's meaning has them. Assumes nothing.
-use Rattle.std.proofs.Common.{◌≡◌, ℕ, ◌+◌, ◌<◌, ◌≤◌, true, false, eqb, ◌⊎◌, List, [], ◌∷◌, length, Some, None, Option, sym, refl, ap, ◌∙◌, subst, inl, inr, ⊎_elim, arith}
+use Rattle.std.proofs.Common.{◌≡◌, ℕ, ◌+◌, ◌<◌, ◌≤◌, true, false, eqb, ◌⊎◌, List, [], ◌∷◌, length, Some, Option, sym, refl, ap, ◌∙◌, subst, inl, inr, ⊎_elim, arith}
 use Rattle.std.specs.List.{AllByRecursion}
 use Rattle.std.proofs.lemmas.Bool.{cond-true, cond-false, cases_lt, eq-eqb, ne_eqb, both_ways, lt-ltb, le-ltb}
 use Rattle.journal.specs.Meaning.{Section, Row, rows_of, first_from, Rising}
 use Rattle.journal.specs.declared.limits.Limits.{Limits}
 use Rattle.journal.proofs.Rows.{rows_kept_from, rows_gone}
-use Rattle.journal.proofs.Walks.{Leads, first_some, first_none}
+use Rattle.journal.proofs.Walks.{Leads, first_some}
 use Rattle.index_layout.specs.Views.{View, view_at, Holds, Apart}
-use Rattle.index_layout.specs.Held.{FirstAt}
 use Rattle.index_layout.proofs.Held.{found_cases, found_at, Somewhere}
 use Rattle.archive_layout.specs.Fit.{Coding, expected, full_view, Agree}
 use Rattle.archive_layout.proofs.Sums.{SomeRows, expected_some}
@@ -31,11 +30,11 @@ module _ (k : Coding) (vs : List View) (xs : List Section) (agree : Agree k vs x
       (λ some. some)
       (found_cases vs s)
 
-no_rows : (rs : List Row) → rs ≡ [] → 0 < length rs → ⊥
+pub no_rows : (rs : List Row) → rs ≡ [] → 0 < length rs → ⊥
 no_rows rs e h = let z = ap length e in omega arith
 
 -- What has rows at or above n comes at or behind the first start.
-behind_first : (low n s t : ℕ) (xs : List Section) → Rising low xs → first_from xs n ≡ Some s → n ≤ t → 0 < length (rows_of xs t) → s ≤ t
+pub behind_first : (low n s t : ℕ) (xs : List Section) → Rising low xs → first_from xs n ≡ Some s → n ≤ t → 0 < length (rows_of xs t) → s ≤ t
 behind_first low n s t xs up e h some = by (cases_lt t s)
   where
     k : Leads low n s xs
@@ -61,32 +60,3 @@ first_rows low n s l (x ∷ xs) up some e = by (cases_lt x.start n) (λ f. first
         let f : ◌≡◌ {A = Option ℕ} (Some x.start) (Some s) = sym (cond-false _ _ _ (le-ltb _ _ le)) ∙ e in
         let q : x.start ≡ s = cc in
         subst (λ (rs : List Row). 0 < length rs) (sym (cond-true _ x.rows (rows_of xs s) (eq-eqb x.start s q))) some.0
-
--- The index's first slot from n on is the first section of the meaning from n on.
-module _ (k : Coding) (vs : List View) (xs : List Section) (agree : Agree k vs xs) (low n : ℕ) (l : Limits) (up : Rising low xs) (some : AllByRecursion SomeRows xs) (sized : length vs ≡ 16) (apart : Apart vs) where
-  pub first_slot : (i s : ℕ) → FirstAt vs n i s → first_from xs n ≡ Some s
-  first_slot i s f = by (first_from xs n) refl
-    where
-      li : i < length vs
-      li = omega (arith, f.slot, sized)
-
-      here : 0 < length (rows_of xs s)
-      here = slot_rows k vs xs agree i s li f.holds apart
-
-      by : (o : Option ℕ) → first_from xs n ≡ o → first_from xs n ≡ Some s
-      by None e = absurd (no_rows (rows_of xs s) (sym (rows_kept_from xs n s f.reached) ∙ ap (λ ys. rows_of ys s) (first_none n xs e)) here)
-      by (Some t) e =
-          let a = behind_first low n t s xs up e f.reached here in
-          let w = rows_slot k vs xs agree t (first_rows low n t l xs up some e) in
-          let b = f.first w.slot t (omega (arith, w.below, sized)) w.here (first_some low n t xs up e).from in
-          let q : t ≡ s = omega arith in
-          e ∙ ap (λ z. Some z) q
-
-  pub no_slot_from : ((j t : ℕ) → j < 16 → Holds vs j t → n ≤ t → ⊥) → first_from xs n ≡ None
-  no_slot_from none = by (first_from xs n) refl
-    where
-      by : (o : Option ℕ) → first_from xs n ≡ o → first_from xs n ≡ None
-      by None e = e
-      by (Some t) e =
-          let w = rows_slot k vs xs agree t (first_rows low n t l xs up some e) in
-          absurd (none w.slot t (omega (arith, w.below, sized)) w.here (first_some low n t xs up e).from)

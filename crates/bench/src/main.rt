@@ -20,7 +20,7 @@ use std::{env, io};
 const ROUNDS: u64 = 100;
 
 /// Translators with their names. The first four bytes of a box number are its owner and a letter that all have, so by them all
-/// records share one bucket of the index.
+/// boxes of an owner have one translated key.
 const TRANSLATORS: [(&str, AnyTranslator); 3] = [
     (
         "the first four bytes",

@@ -1,8 +1,7 @@
 -- What a section of the code stands for, and what a slot does.
 --   viewed s      the section as the archive sees it
 --   slot_view o   a slot that holds a section, or none
---   reaches n v   whether the slot v holds a start at or above n
-use Rattle.std.specs.Prelude.{ℕ, Bool, true, ◌&&◌, Some, None, Option, nat_le}
+use Rattle.std.specs.Prelude.{true, Some, None, Option}
 use Rattle.index_layout.specs.Views.{View, free_view}
 use Rattle.index.specs.Rows.{offsets_of, codes_of, buckets_of}
 use Rattle.index.specs.declared.section.Section.{Section}
@@ -19,6 +18,3 @@ viewed s = record {
 abbrev pub slot_view : Option Section → View
 slot_view None = free_view
 slot_view (Some s) = viewed s
-
-abbrev pub reaches : ℕ → View → Bool
-reaches n v = v.used && nat_le n v.start

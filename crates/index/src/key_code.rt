@@ -4,7 +4,7 @@ ghost use Rattle.std.specs.Prelude.{◌≡◌, ◌<◌};
 ghost use Rattle.index_layout.specs.Views.{bucket_of};
 
 /// What spreads hashes over the buckets, so that those that end alike do not meet: 2^64 by the golden section, made odd.
-const SPREAD: u64 = 0x9E37_79B9_7F4A_7C15;
+pub(crate) const SPREAD: u64 = 0x9E37_79B9_7F4A_7C15;
 
 /// A translated key and its hash.
 #[derive(Clone, Copy, Debug, PartialEq, Eq)]

@@ -5,5 +5,6 @@
 pub mod handle;
 pub mod index;
 pub mod key_code;
+mod marks;
 mod row;
 pub mod section;

@@ -7,3 +7,5 @@ pub mod Through
 pub mod Slots
 pub mod Noting
 pub mod Candidates
+pub mod Marks
+pub mod Firsts

@@ -1,13 +1,12 @@
 -- Going through the slots. Assumes nothing.
 --   slot_place               the search for a start, and slot_tells what its answer says
---   best_skip .. best_more   the search for the first start from a number on
 --   struck_step, struck_end   a strike, slot by slot
 use Rattle.std.proofs.Common.{◌≡◌, ℕ, zero, suc, ◌+◌, ◌<◌, ◌≤◌, true, false, cond, ◌≢◌, ◌⊎◌, List, [], ◌∷◌, map, length, set, is_some, Some, None, Option, sym, refl, ap, ◌∙◌, subst, inl, inr, arith, get_or-set_other, get_or-set_same, below_more, MatchOption}
 use Rattle.std.specs.List.{position_from}
 use Rattle.std.proofs.lemmas.List.{length-map, get_or-map, ext_get_or}
 use Rattle.std.proofs.lemmas.Bool.{cond-true, cond-false, cases_Bool, both_ways}
 use Rattle.index_layout.specs.Views.{View, free_view, kept_view, view_at, Holds}
-use Rattle.index_layout.specs.Held.{holds, found, slot_from, slot_of, BestBelow}
+use Rattle.index_layout.specs.Held.{holds, found, slot_from, slot_of}
 use Rattle.index_layout.proofs.Held.{Nowhere, held_from, held_to}
 
 -- The slot of a start, as a place in a list of what the slots stand for.
@@ -68,45 +67,6 @@ slot_held vs s (Some i) e h = let q : Home vs s i = slot_tells vs s (Some i) e i
 pub slot_absent : (vs : List View) (s : ℕ) (r : Option ℕ) → r ≡ slot_of vs s → is_some r ≡ false → Nowhere vs s × (found vs s ≡ free_view)
 slot_absent vs s None e h = slot_tells vs s None e
 slot_absent vs s (Some i) e h = absurd (both_ways true h refl)
-
--- The first start from n on, among the slots below k.
-pub best_skip : (vs : List View) (n k : ℕ) (r : Option (ℕ × ℕ)) → BestBelow vs n k r → ((t : ℕ) → Holds vs k t → n ≤ t → ⊥) → BestBelow vs n (k + 1) r
-best_skip vs n k None h lack =
-    λ j t l held le. below_more (λ j. (t : ℕ) → Holds vs j t → n ≤ t → ⊥) k (λ j l t held le. h j t l held le) lack j l t held le
-best_skip vs n k (Some b) h lack =
-    record {
-      slot = omega (arith, h.slot);
-      holds = h.holds;
-      reached = h.reached;
-      first = λ j t l held le. below_more (λ j. (t : ℕ) → Holds vs j t → n ≤ t → b.1 ≤ t) k (λ j l t held le. h.first j t l held le) (λ t held le. absurd (lack t held le)) j l t held le;
-    }
-
-pub best_keep : (vs : List View) (n k s : ℕ) (b : ℕ × ℕ) → BestBelow vs n k (Some b) → Holds vs k s → b.1 ≤ s → BestBelow vs n (k + 1) (Some b)
-best_keep vs n k s b h at less =
-    record {
-      slot = omega (arith, h.slot);
-      holds = h.holds;
-      reached = h.reached;
-      first = λ j t l held le. below_more (λ j. (t : ℕ) → Holds vs j t → n ≤ t → b.1 ≤ t) k (λ j l t held le. h.first j t l held le) (λ t held le. omega (arith, sym held.1 ∙ at.1)) j l t held le;
-    }
-
-pub best_first : (vs : List View) (n k s : ℕ) → BestBelow vs n k None → Holds vs k s → n ≤ s → BestBelow vs n (k + 1) (Some (k, s))
-best_first vs n k s h at low =
-    record {
-      slot = omega arith;
-      holds = at;
-      reached = low;
-      first = λ j t l held le. below_more (λ j. (t : ℕ) → Holds vs j t → n ≤ t → s ≤ t) k (λ j l t held le. absurd (h j t l held le)) (λ t held le. omega (arith, sym held.1 ∙ at.1)) j l t held le;
-    }
-
-pub best_more : (vs : List View) (n k s : ℕ) (b : ℕ × ℕ) → BestBelow vs n k (Some b) → Holds vs k s → n ≤ s → s < b.1 → BestBelow vs n (k + 1) (Some (k, s))
-best_more vs n k s b h at low more =
-    record {
-      slot = omega arith;
-      holds = at;
-      reached = low;
-      first = λ j t l held le. below_more (λ j. (t : ℕ) → Holds vs j t → n ≤ t → s ≤ t) k (λ j l t held le. omega (arith, h.first j t l held le)) (λ t held le. omega (arith, sym held.1 ∙ at.1)) j l t held le;
-    }
 
 -- A strike: the slots below i are done.
 pub struck_step : (now0 now1 was : List View) (i min : ℕ) → i < length now0

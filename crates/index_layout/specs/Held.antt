@@ -2,8 +2,6 @@
 --   holds s v           whether the slot v holds the section that starts at s
 --   found vs s          the slot that holds s, or a free one
 --   slot_of vs s        which slot that is; the first one
---   FirstFrom vs n r    r is the slot with the first start at or above n, with that start, or none
---   BestBelow vs n k    the same among the slots below k
 --   Crowded vs s        no slot holds s, and none is free
 --   Opened vs vs' s i   the slot i was free, and is taken for s, which no slot held
 --   Shut vs s           a slot holds s, or none is free
@@ -16,7 +14,7 @@
 --   Noted vs vs' s ..   vs' holds at each start what vs does, with one record more at s
 --   Seated vs vs' s ..  the slot of vs that holds s, or a free one taken for s, has one record more in vs'
 --   in_slot i o         the position o of the slot i as a handle
-use Rattle.std.specs.Prelude.{◌≡◌, ℕ, ◌+◌, ◌*◌, ◌^◌, ◌<◌, ◌≤◌, Bool, true, false, cond, ◌&&◌, ◌||◌, ◌⊎◌, List, [], ◌∷◌, length, Some, None, Option, MatchOption, ◌==◌, nat_lt, slice_set}
+use Rattle.std.specs.Prelude.{◌≡◌, ℕ, ◌+◌, ◌*◌, ◌^◌, ◌<◌, Bool, true, false, cond, ◌&&◌, ◌||◌, ◌⊎◌, List, [], ◌∷◌, length, Some, None, Option, ◌==◌, nat_lt, slice_set}
 use Rattle.index_layout.specs.Links.{fresh}
 use Rattle.index_layout.specs.Views.{View, free_view, open_view, grown, takes, view_at, Holds, slot_count}
 
@@ -33,26 +31,6 @@ slot_from i (v ∷ vs) s = cond (holds s v) (Some i) (slot_from (i + 1) vs s)
 
 abbrev pub slot_of : List View → ℕ → Option ℕ
 slot_of vs s = slot_from 0 vs s
-
--- A slot with the start that it holds.
-pub record FirstAt (vs : List View) (n i s : ℕ) : Type 0 where
-  pub slot : i < slot_count
-  pub holds : Holds vs i s
-  pub reached : n ≤ s
-  pub first : (j t : ℕ) → j < slot_count → Holds vs j t → n ≤ t → s ≤ t
-
-abbrev pub FirstFrom : List View → ℕ → Option (ℕ × ℕ) → Type 0
-FirstFrom vs n r = MatchOption r ((j t : ℕ) → j < slot_count → Holds vs j t → n ≤ t → ⊥) (λ h. FirstAt vs n h.0 h.1)
-
--- The same among the slots below k.
-pub record BestAt (vs : List View) (n k i s : ℕ) : Type 0 where
-  pub slot : i < k
-  pub holds : Holds vs i s
-  pub reached : n ≤ s
-  pub first : (j t : ℕ) → j < k → Holds vs j t → n ≤ t → s ≤ t
-
-abbrev pub BestBelow : List View → ℕ → ℕ → Option (ℕ × ℕ) → Type 0
-BestBelow vs n k r = MatchOption r ((j t : ℕ) → j < k → Holds vs j t → n ≤ t → ⊥) (λ h. BestAt vs n k h.0 h.1)
 
 abbrev pub Absent : List View → ℕ → Type 0
 Absent vs s = (i : ℕ) → i < slot_count → Holds vs i s → ⊥

@@ -2,3 +2,4 @@ pub mod Links
 pub mod Views
 pub mod Held
 pub mod Candidates
+pub mod Marks

@@ -109,9 +109,10 @@ impl<'i> Desk<'i> {
         self.score.judge(self.index.counts() == expected);
     }
 
-    pub fn first_from(&mut self, from: u64) {
-        let expected = self.model.first_from(from);
-        self.score.judge(self.index.first_from(from) == expected);
+    pub fn first_with(&mut self, from: u64, key: KeyCode) {
+        let expected = self.model.first_with(from, key);
+        self.score
+            .judge(self.index.first_with(from, key) == expected);
     }
 
     pub fn starts(&mut self) {

@@ -71,14 +71,14 @@ fn step(
     desk.note(start, offset, key(random, stretch.spread))?;
     desk.number(start, random.below(66));
     desk.number(start, offset);
-    desk.first_from(
-        lowest
-            .saturating_mul(64)
-            .saturating_add(random.below(1_600)),
-    );
+    let from = lowest
+        .saturating_mul(64)
+        .saturating_add(random.below(1_600));
     desk.starts();
     let slot = random.below(18) as usize;
-    desk.candidates(slot, key(random, stretch.spread));
+    let sought = key(random, stretch.spread);
+    desk.first_with(from, sought);
+    desk.candidates(slot, sought);
     desk.after(slot, random.below(130), key(random, stretch.spread));
     desk.counts();
     Ok(())

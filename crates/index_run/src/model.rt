@@ -58,10 +58,13 @@ impl Model {
         Some(kept.start)
     }
 
-    pub fn first_from(&self, from: u64) -> Option<(usize, u64)> {
+    /// The section of the lowest start at or above a number that has a record with a key.
+    pub fn first_with(&self, from: u64, key: KeyCode) -> Option<(usize, u64)> {
         let mut best: Option<Kept> = None;
         for kept in self.sections.iter() {
-            if kept.start >= from && best.is_none_or(|best| kept.start < best.start) {
+            let start = kept.start;
+            let has_one = self.records.iter().any(|record| record.bears(start, key));
+            if has_one && start >= from && best.is_none_or(|best| start < best.start) {
                 best = Some(*kept);
             }
         }

@@ -3,13 +3,15 @@
 ghost use Rattle.std.specs.Prelude.{◌≡◌, ℕ, ◌+◌, ◌*◌, ◌/◌, ◌%◌, ◌^◌, ◌<◌, ◌≤◌, true, false, ◌&&◌, map, is_ok, IfSome, if◌then◌else◌, MatchOption, slice_set};
 ghost use Rattle.std.specs.Option.{option_copied};
 ghost use Rattle.index_layout.specs.Views.{free_view, grown, takes, goes, bucket_of, kept_view, view_at, first_in, next_in, newest_in, older_in};
-ghost use Rattle.index_layout.specs.Held.{found, slot_of, FirstFrom, Shut, Opened, start_in, has_room, Noted, Seated, total, weight, under, numbers, records, in_slot};
-ghost use Rattle.index.specs.Slots.{views, no_views, nearer};
+ghost use Rattle.index_layout.specs.Held.{found, slot_of, Shut, Opened, start_in, has_room, Noted, Seated, total, weight, under, numbers, records, in_slot};
+ghost use Rattle.index_layout.specs.Candidates.{nearer, FirstWith};
+ghost use Rattle.index.specs.Slots.{views, no_views};
 ghost use Rattle.index.specs.Viewed.{slot_view};
 
 use crate::handle::{POSITIONS, unpack};
 use crate::index::{Index, Tally};
 use crate::key_code::KeyCode;
+use crate::marks::{mark, marks_at, unmark, without};
 use crate::section::{NoRoom, Section};
 
 /// A position in a slot as a handle.
@@ -21,18 +23,23 @@ fn in_slot(slot: usize, position: Option<u64>) -> Option<u64>
     position.map(|p| slot as u64 * POSITIONS + p)
 }
 
-/// The nearer to a number of the best so far and what a slot more holds. By the start alone: pairs would go by the slot first.
+/// The nearer to a number of the best so far and what a slot more holds, if that has a candidate, which is asked last. By the
+/// start alone: pairs would go by the slot first.
 fn nearer(
     best: Option<(usize, u64)>,
+    key: KeyCode,
     from: u64,
     slot: usize,
     held: &Option<Section>,
 ) -> Option<(usize, u64)>
-    ensures { result ≡ nearer best from slot (slot_view held.now) }
+    ensures { result ≡ nearer best key.code (bucket_of key.hash) from slot (slot_view held.now) }
 {
     match (held, best) {
-        (Some(section), None) if section.reaches(from) => Some((slot, section.start())),
-        (Some(section), Some((_, start))) if section.reaches(from) && section.start() < start => {
+        (Some(section), None) if section.reaches(from) && section.has(key) => {
+            Some((slot, section.start()))
+        }
+        (Some(section), Some((_, start)))
+            if section.reaches(from) && section.start() < start && section.has(key) => {
             Some((slot, section.start()))
         }
         _ => best,
@@ -64,6 +71,7 @@ impl Index {
     {
         Index {
             slots: Default::default(),
+            marks: [0; 1_024],
         }
     }
 
@@ -72,6 +80,7 @@ impl Index {
         ensures views { views self.new ≡ no_views }
     {
         self.slots = Default::default();
+        self.marks = [0; 1_024];
     }
 
     /// The slot of a start.
@@ -97,14 +106,20 @@ impl Index {
         Some(section.start())
     }
 
-    /// The first section that begins at a number or above: its slot and its start.
-    pub fn first_from(&self, from: u64) -> Option<(usize, u64)>
-        ensures is { FirstFrom (views self.now) from result }
+    /// The first section that begins at a number or above and has a record with this translated key and hash: its slot and
+    /// its start.
+    pub fn first_with(&self, from: u64, key: KeyCode) -> Option<(usize, u64)>
+        ensures is { FirstWith (views self.now) key.code (bucket_of key.hash) from result }
     {
-        self.slots
-            .iter()
-            .enumerate()
-            .fold(None, |best, (i, slot)| nearer(best, from, i, slot))
+        let mut best = None;
+        let mut left = marks_at(&self.marks, key.code);
+        // Along marks, of which each turn has one less.
+        while left != 0 {
+            let slot = left.trailing_zeros() as usize;
+            best = nearer(best, key, from, slot, &self.slots[slot]);
+            left = without(left, slot);
+        }
+        best
     }
 
     /// A free slot.
@@ -123,6 +138,8 @@ impl Index {
         }
         let slot = self.free_slot()?;
         self.slots[slot] = Some(Section::open(start));
+        // What was in the slot before may have left marks.
+        unmark(&mut self.marks, slot);
         Some(slot)
     }
 
@@ -135,6 +152,8 @@ impl Index {
         if slot >= 16 {
             return Err(NoRoom);
         }
+        // Marked also where the record is refused then: a mark for nothing costs a look, and no record may go without.
+        mark(&mut self.marks, key.code, slot);
         add_in(&mut self.slots[slot], offset, key)
     }
 

@@ -6,7 +6,8 @@ ghost use Rattle.index_layout.specs.Links.{latest, link, linked, matching};
 ghost use Rattle.index_layout.specs.Views.{open_view, grown, takes, goes, bucket_of, first_in, next_in, newest_in, older_in};
 ghost use Rattle.index_layout.specs.Held.{holds, numbers, records};
 ghost use Rattle.index.specs.Rows.{buckets_of, codes_of, Leads};
-ghost use Rattle.index.specs.Viewed.{viewed, reaches};
+ghost use Rattle.index_layout.specs.Candidates.{has_candidate, reaches};
+ghost use Rattle.index.specs.Viewed.{viewed};
 
 use crate::key_code::KeyCode;
 use crate::row::ops::follow;
@@ -139,6 +140,13 @@ impl Section {
     {
         let bucket = key.bucket();
         self.matched(self.heads[bucket as usize], bucket, key.code)
+    }
+
+    /// Whether there is a record with this translated key and hash.
+    pub fn has(&self, key: KeyCode) -> bool
+        ensures { result ≡ has_candidate (viewed self.now) key.code (bucket_of key.hash) }
+    {
+        self.newest(key).is_some()
     }
 
     /// The next older record with this translated key and hash, after one with the hash.

@@ -1,7 +1,9 @@
 use Rattle.std.proofs.Common.{◌<◌, length, map, set, sym, ap, ◌∙◌, subst, arith, length-set}
 use Rattle.index_layout.specs.Views.{Apart, kept_view}
 use Rattle.index_layout.specs.Held.{weight, under, numbers, records}
+use Rattle.index_layout.specs.Marks.{Marked}
 use Rattle.index_layout.proofs.Apart.{apart_kept}
+use Rattle.index_layout.proofs.Marks.{marked_kept}
 use Rattle.index_layout.proofs.Held.{summed_more}
 use Rattle.index_layout.proofs.Slots.{struck_step, struck_end}
 use Rattle.index_layout.proofs.Through.{at_view, put_view, length_views, gone_weight}
@@ -37,7 +39,12 @@ invariant_of-self c =
     let inv = c.loop-slot.invariant in
     let e = struck_end (map slot_view c.loop-slot.slot-items) (views was) 16 c.args.min (length_views slot_view c.loop-slot.slot-items 16 inv.long) (length_views slot_view was.slots 16 was.sized)
     (λ k h. inv.done k (omega arith)) in
-    record { sized = inv.long; apart = subst Apart (sym e) (apart_kept (views was) c.args.min was.apart) }
+    record {
+      sized = inv.long;
+      long = was.long;
+      apart = subst Apart (sym e) (apart_kept (views was) c.args.min was.apart);
+      marked = subst (Marked was.marks) (sym e) (marked_kept was.marks (views was) c.args.min (length_views slot_view was.slots 16 was.sized) was.marked);
+    }
 
 pub returns-clause-views : goal.returns-clause-views
 returns-clause-views c =
