@@ -104,15 +104,25 @@ static void print_answer(const struct lundwazo_turn *turn) {
     }
 }
 
-struct pages {
-    uint8_t *entries, *values;
-    size_t entries_length, values_length;
-};
+/* Pages of zeros, which keep nothing. */
+static struct lundwazo_pages new_pages(void) {
+    struct lundwazo_pages pages = {.entries_length = lundwazo_entries_size(&limits), .values_length = lundwazo_values_size(&limits)};
+    pages.entries = calloc(pages.entries_length, 1);
+    pages.values = calloc(pages.values_length, 1);
+    if (pages.entries == NULL || pages.values == NULL) {
+        exit(2);
+    }
+    return pages;
+}
 
-static void run(struct pages pages, struct batch *batch) {
+static void free_pages(struct lundwazo_pages pages) {
+    free(pages.entries);
+    free(pages.values);
+}
+
+static void run(struct lundwazo_pages *pages, struct lundwazo_pages *saved, struct batch *batch) {
     struct lundwazo_outcome outcome =
-        lundwazo_run(pages.entries, pages.entries_length, pages.values, pages.values_length, &limits, LUNDWAZO_BOX_NUMBERS,
-                     LUNDWAZO_FNV, batch->turns, batch->length);
+        lundwazo_run(pages, saved, &limits, LUNDWAZO_BOX_NUMBERS, LUNDWAZO_FNV, batch->turns, batch->length);
     if (outcome.status != LUNDWAZO_DONE) {
         print_fault(outcome.fault);
         return;
@@ -122,7 +132,7 @@ static void run(struct pages pages, struct batch *batch) {
     }
 }
 
-static void save(struct pages pages, FILE *file) {
+static void save(struct lundwazo_pages pages, FILE *file) {
     rewind(file);
     if (fwrite(pages.entries, 1, pages.entries_length, file) != pages.entries_length ||
         fwrite(pages.values, 1, pages.values_length, file) != pages.values_length) {
@@ -130,7 +140,7 @@ static void save(struct pages pages, FILE *file) {
     }
 }
 
-static void read_back(struct pages pages, FILE *file) {
+static void read_back(struct lundwazo_pages pages, FILE *file) {
     rewind(file);
     if (fread(pages.entries, 1, pages.entries_length, file) != pages.entries_length ||
         fread(pages.values, 1, pages.values_length, file) != pages.values_length) {
@@ -140,11 +150,9 @@ static void read_back(struct pages pages, FILE *file) {
 
 int main(void) {
     static struct batch begun, again, bad;
-    struct pages pages = {.entries_length = lundwazo_entries_size(&limits), .values_length = lundwazo_values_size(&limits)};
-    pages.entries = calloc(pages.entries_length, 1);
-    pages.values = calloc(pages.values_length, 1);
+    struct lundwazo_pages pages = new_pages(), saved = new_pages();
     FILE *file = tmpfile();
-    if (pages.entries == NULL || pages.values == NULL || file == NULL) {
+    if (file == NULL) {
         return 2;
     }
     printf("pages of %zu and %zu bytes\n", pages.entries_length, pages.values_length);
@@ -159,11 +167,9 @@ int main(void) {
     add(&begun, LUNDWAZO_LIST_KEY, 0, "CSQU3054383", "");
     add(&begun, LUNDWAZO_COUNTS, 0, "", "");
     add(&begun, 99, 0, "", "");
-    run(pages, &begun);
+    run(&pages, &saved, &begun);
 
-    save(pages, file);
-    memset(pages.entries, 0, pages.entries_length);
-    memset(pages.values, 0, pages.values_length);
+    save(saved, file);
     read_back(pages, file);
 
     printf("read back\n");
@@ -173,16 +179,16 @@ int main(void) {
     add(&again, LUNDWAZO_HAS_NUMBER, 7, "", "");
     add(&again, LUNDWAZO_GET_KEY, 0, "CSQU3054383", "");
     add(&again, LUNDWAZO_COUNTS, 0, "", "");
-    run(pages, &again);
+    run(&pages, &saved, &again);
 
     printf("spoilt\n");
     read_back(pages, file);
     pages.entries[0] ^= 1;
     add(&bad, LUNDWAZO_LOAD, MOVES_TO_A_SECTION, "", "");
-    run(pages, &bad);
+    run(&pages, &saved, &bad);
 
     fclose(file);
-    free(pages.entries);
-    free(pages.values);
+    free_pages(pages);
+    free_pages(saved);
     return 0;
 }

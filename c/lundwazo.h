@@ -48,7 +48,7 @@ struct lundwazo_outcome {
 
 enum {
     LUNDWAZO_DONE = 0,
-    LUNDWAZO_NOT_MOUNTED = 1, /* the pages are refused; the fault says why */
+    LUNDWAZO_NOT_MOUNTED = 1, /* the pages are refused; the fault says why, 4 also where `saved` is of another length */
     LUNDWAZO_NO_SUCH_KEYS = 2,
     LUNDWAZO_NO_SUCH_TRANSLATOR = 3
 };
@@ -125,6 +125,14 @@ struct lundwazo_turn {
     struct lundwazo_answer answer;
 };
 
+/* Two slices that pages lie in, or are saved into. */
+struct lundwazo_pages {
+    uint8_t *entries;
+    size_t entries_length;
+    uint8_t *values;
+    size_t values_length;
+};
+
 /* How many bytes the two slices of pages have with these limits; 0 where no journal may have them. Slices of zeros are a journal
  * that keeps nothing. */
 size_t lundwazo_entries_size(const struct lundwazo_limits *limits);
@@ -136,11 +144,13 @@ struct lundwazo_outcome lundwazo_check(const uint8_t *entries, size_t entries_le
 
 /*
  * Mounts pages, makes an archive over them and takes it through the turns, each answered where it lies. The archive has to be loaded
- * by the first turn that asks for anything. The floor is not kept in pages: it is as far back as it can be when a run begins. Where
- * the outcome is not LUNDWAZO_DONE nothing is changed. Afterwards the slices hold what was stored, and can be saved, and mounted
- * again by a later run.
+ * by the first turn that asks for anything. There is no floor when a run begins: pages do not keep it.
+ *
+ * What the pages hold in the end goes into `saved`, two slices as long as theirs: these can be written to a disk, and are the pages of
+ * the next run. What then lies in the slices of `pages` themselves is not told. Where the outcome is not LUNDWAZO_DONE nothing at all
+ * is changed.
  */
-struct lundwazo_outcome lundwazo_run(uint8_t *entries, size_t entries_length, uint8_t *values, size_t values_length,
+struct lundwazo_outcome lundwazo_run(struct lundwazo_pages *pages, struct lundwazo_pages *saved,
                                      const struct lundwazo_limits *limits, uint64_t keys, uint64_t translator,
                                      struct lundwazo_turn *turns, size_t turns_length);
 

@@ -1,2 +1,4 @@
 pub mod Going
+pub mod Limits
+pub mod Saving
 pub mod Taking

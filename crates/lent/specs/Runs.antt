@@ -7,11 +7,18 @@
 --   Takes kind s u v   the turn u, taken in the state s, may end as v
 --   after kind s u     the state after it
 --   Serves kind m us vs t   the turns us, taken over a journal of meaning m, end as vs, obey the law, and leave the state t
---   ServesIf o ..      what a run from slices and limits promises, by the refusal o of the journal's check: where there is one, it is
---                      the answer, and the turns are as they were
-use Rattle.std.specs.Prelude.{◌≡◌, ℕ, List, [], ◌∷◌, length, Some, None, Ok, Err, Option, Result}
+--   ServesTo .. m'     the same, and m' is what the journal then means
+--   save_fault l b c   the refusal of the pages b, or that what is saved into is of another length
+--   Keeps l es vs m    the bytes es and vs are accepted as pages with the limits l, and mean m with floor 0
+--   ServesIf o ..      what a run from slices and limits promises, by the refusal o: where there is one, it is the answer, and the
+--                      turns are as they were; else the law, and of what the journal then means holds what saved says
+use Rattle.std.specs.Prelude.{◌≡◌, ℕ, Bool, cond, ◌&&◌, List, [], ◌∷◌, length, Some, None, Ok, Err, Option, Result, ◌==◌}
 use Rattle.journal.specs.Meaning.{Meaning}
+use Rattle.journal.specs.declared.limits.Limits.{Limits}
 use Rattle.journal.specs.declared.fault.JournalFault.{JournalFault}
+use Rattle.journal.specs.declared.fault.JournalFault.TheVariants.{WrongSizes}
+use Rattle.format.specs.Mount.{mount_fault}
+use Rattle.format.specs.State.{decoded, unfloored}
 use Rattle.rules.specs.declared.call.Call.{Call}
 use Rattle.rules.specs.State.{Kind, State}
 use Rattle.rules.specs.Steps.{Handed, Answer, Answers, next, history_of}
@@ -67,6 +74,27 @@ pub record Serves (kind : Kind) (m : Meaning) (us vs : List Seen) (t : State) : 
   pub law : Law kind m (history_of (asked_all kind.flaw us) answers) t
   pub turns : vs ≡ written kind.flaw us answers
 
-abbrev pub ServesIf : Option JournalFault → Kind → Meaning → List Seen → List Seen → Result Unit JournalFault → Type 0
-ServesIf (Some f) kind m us vs r = (r ≡ Err f) × (vs ≡ us)
-ServesIf None kind m us vs r = (r ≡ Ok tt) × (t : State) × Serves kind m us vs t
+abbrev pub ServesTo : Kind → Meaning → List Seen → List Seen → Meaning → Type 0
+ServesTo kind m us vs m' = (t : State) × Serves kind m us vs t × (m' ≡ t.journal)
+
+-- What lies in two slices.
+pub record Bytes : Type 0 where
+  pub entries : List ℕ
+  pub values : List ℕ
+
+abbrev pub both : List ℕ → List ℕ → Bytes
+both es vs = record { entries = es; values = vs }
+
+abbrev pub as_long : Bytes → Bytes → Bool
+as_long a b = length a.entries == length b.entries && length a.values == length b.values
+
+abbrev pub save_fault : Limits → Bytes → Bytes → Option JournalFault
+save_fault l b saved = cond (as_long saved b) (mount_fault l b.entries b.values) (Some WrongSizes)
+
+-- Who keeps the bytes es and vs keeps a journal that means m, with floor 0.
+abbrev pub Keeps : Limits → List ℕ → List ℕ → Meaning → Type 0
+Keeps l es vs m = (mount_fault l es vs ≡ None) × (decoded l es vs ≡ unfloored m)
+
+abbrev pub ServesIf : Option JournalFault → Kind → Meaning → List Seen → List Seen → (Meaning → Type 0) → Result Unit JournalFault → Type 0
+ServesIf (Some f) kind m us vs saved r = (r ≡ Err f) × (vs ≡ us)
+ServesIf None kind m us vs saved r = (r ≡ Ok tt) × (t : State) × Serves kind m us vs t × saved t.journal

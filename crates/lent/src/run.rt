@@ -3,12 +3,12 @@
 ghost use Rattle.std.specs.Prelude.{◌≡◌, map, Ok, IfErr};
 ghost use Rattle.format.specs.Mount.{mount_fault};
 ghost use Rattle.format.specs.State.{decoded};
-ghost use Rattle.rules.specs.State.{State};
+ghost use Rattle.pages.specs.Journals.{means};
 ghost use Rattle.archive.specs.Parts.{kind_of};
 ghost use Rattle.archive.specs.Archives.{state_of, Fits, Does};
 ghost use Rattle.rules.specs.Turns.{by_bytes};
 ghost use Rattle.lent.specs.Seen.{seen};
-ghost use Rattle.lent.specs.Runs.{Takes, TakesAs, after, after_as, Serves, ServesIf};
+ghost use Rattle.lent.specs.Runs.{Takes, TakesAs, after, after_as, Serves, ServesTo, ServesIf, Keeps, both, save_fault};
 
 use crate::answer::Answer;
 use crate::turn::Turn;
@@ -69,33 +69,56 @@ pub fn serve<J: Journal, T: Translator, K: Key + Drop>(
     archive
 }
 
-// Over any journal, behind a cache, to the answers; nothing else is kept.
-fn serve_cached<J: Journal + Drop, T: Translator + Drop, K: Key + Drop>(
+// Over any journal, behind a cache, and the journal given back.
+fn serve_cached<J: Journal, T: Translator + Drop, K: Key + Drop>(
     journal: J,
     translator: T,
     turns: &mut [Turn<'_>],
-)
-    ensures law { (o : J.Journal.past) → J.Journal.fits o journal → (t : State) × Serves (kind_of T.Translator.translated K.Key.W K.Key.flaw translator) (J.Journal.meaning journal) (map seen turns.old) (map seen turns.new) t }
+) -> J
+    ensures law { (o : J.Journal.past) → J.Journal.fits o journal → ServesTo (kind_of T.Translator.translated K.Key.W K.Key.flaw translator) (J.Journal.meaning journal) (map seen turns.old) (map seen turns.new) (J.Journal.meaning result) }
     ensures buffers { map (λ u. u.bytes.ghost_name) turns.new ≡ map (λ u. u.bytes.ghost_name) turns.old }
     ensures slices { map (λ u. u.places.ghost_name) turns.new ≡ map (λ u. u.places.ghost_name) turns.old }
 {
-    let _: Archive<Cache<J>, T, K> = serve(Cache::over(journal), translator, turns);
+    let archive: Archive<Cache<J>, T, K> = serve(Cache::over(journal), translator, turns);
+    archive.into_journal().into_below()
 }
 
-/// A run on the byte pages that lie in two slices. Where they cannot be mounted it is refused, and no turn is answered.
+// Mounted pages, taken through the turns and given back.
+fn serve_mounted<'a, T: Translator + Drop, K: Key + Drop>(
+    pages: Pages<'a>,
+    translator: T,
+    turns: &mut [Turn<'_>],
+) -> Pages<'a>
+    ensures law { ServesTo (kind_of T.Translator.translated K.Key.W K.Key.flaw translator) (means pages.entry) (map seen turns.old) (map seen turns.new) (means result) }
+    ensures buffers { map (λ u. u.bytes.ghost_name) turns.new ≡ map (λ u. u.bytes.ghost_name) turns.old }
+    ensures slices { map (λ u. u.places.ghost_name) turns.new ≡ map (λ u. u.places.ghost_name) turns.old }
+{
+    serve_cached::<Pages<'a>, T, K>(pages, translator, turns)
+}
+
+/// A run on byte pages that lie in two slices; what they hold after it goes into two others, as long as they are. Where the pages
+/// cannot be mounted, or the others are of another length, it is refused, and nothing is answered or written.
 pub fn serve_on_pages<T: Translator + Drop, K: Key + Drop>(
     entries: &mut [u8],
     values: &mut [u8],
+    saved_entries: &mut [u8],
+    saved_values: &mut [u8],
     limits: Limits,
     translator: T,
     turns: &mut [Turn<'_>],
 ) -> Result<(), JournalFault>
-    ensures answer { ServesIf (mount_fault limits entries.old values.old) (kind_of T.Translator.translated K.Key.W K.Key.flaw translator) (decoded limits entries.old values.old) (map seen turns.old) (map seen turns.new) result }
-    ensures refused { IfErr result (λ _. (entries.new ≡ entries.old) × (values.new ≡ values.old)) }
+    ensures answer { ServesIf (save_fault limits (both entries.old values.old) (both saved_entries.old saved_values.old)) (kind_of T.Translator.translated K.Key.W K.Key.flaw translator) (decoded limits entries.old values.old) (map seen turns.old) (map seen turns.new) (Keeps limits saved_entries.new saved_values.new) result }
+    ensures refused { IfErr result (λ _. (both entries.new values.new ≡ both entries.old values.old) × (both saved_entries.new saved_values.new ≡ both saved_entries.old saved_values.old)) }
     ensures buffers { map (λ u. u.bytes.ghost_name) turns.new ≡ map (λ u. u.bytes.ghost_name) turns.old }
     ensures slices { map (λ u. u.places.ghost_name) turns.new ≡ map (λ u. u.places.ghost_name) turns.old }
 {
+    if saved_entries.len() != entries.len() || saved_values.len() != values.len() {
+        return Err(JournalFault::WrongSizes);
+    }
     Pages::check(entries, values, limits)?;
-    serve_cached::<Pages<'_>, T, K>(Pages::mount(entries, values, limits), translator, turns);
+    let pages = Pages::mount(entries, values, limits);
+    let left = serve_mounted::<T, K>(pages, translator, turns);
+    saved_entries.copy_from_slice(left.entries());
+    saved_values.copy_from_slice(left.values());
     Ok(())
 }

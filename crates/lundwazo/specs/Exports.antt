@@ -7,8 +7,8 @@
 --   chosen k n       keys of the kind with the number k, by that translator, or the status that says which there is not
 --   RunsBy ..        what a run promises, by what was chosen and by the refusal of the pages: where there is no such kind or
 --                    translator, or the pages are refused, that is the outcome, and the turns are as they were; else they were
---                    taken over a journal of meaning m, and obey the law
---   KeptUnlessDone   the bytes of the pages are as they were, but where the run was made
+--                    taken over a journal of meaning m, and obey the law, and of what it then means holds what saved says
+--   KeptUnlessDone   the bytes of the pages, and of what is saved into, are as they were, but where the run was made
 use Rattle.std.specs.Prelude.{◌≡◌, ℕ, false, cond, List, Some, None, Ok, Err, Option, Result, ◌==◌}
 use Rattle.keys.specs.declared.translator.AnyTranslator.{AnyTranslator}
 use Rattle.keys.specs.declared.translator.AnyTranslator.TheVariants as any
@@ -22,7 +22,7 @@ use Rattle.journal.specs.declared.fault.JournalFault.{JournalFault}
 use Rattle.pages.specs.declared.sizes.Sizes.{Sizes}
 use Rattle.rules.specs.State.{Kind, State}
 use Rattle.lent.specs.Seen.{Seen}
-use Rattle.lent.specs.Runs.{Serves}
+use Rattle.lent.specs.Runs.{Bytes, Serves}
 use Rattle.lundwazo.specs.declared.outcome.Outcome.{Outcome}
 
 abbrev pub entries_in : Option Sizes → ℕ
@@ -63,10 +63,10 @@ with_kind width flaw (Some t) = Ok (record { width = width; flaw = flaw; transla
 abbrev pub chosen : ℕ → ℕ → Result Kind ℕ
 chosen k n = cond (k == 1) (with_kind 11 iso.flaw (translator_by n)) (cond (k == 2) (with_kind 32 digests.flaw (translator_by n)) (Err 2))
 
-abbrev pub RunsBy : Result Kind ℕ → Option JournalFault → Meaning → List Seen → List Seen → Outcome → Type 0
-RunsBy (Err n) o m us vs r = (r ≡ bare n) × (vs ≡ us)
-RunsBy (Ok kind) (Some f) m us vs r = (r ≡ refusal f) × (vs ≡ us)
-RunsBy (Ok kind) None m us vs r = (r ≡ bare 0) × (t : State) × Serves kind m us vs t
+abbrev pub RunsBy : Result Kind ℕ → Option JournalFault → Meaning → List Seen → List Seen → (Meaning → Type 0) → Outcome → Type 0
+RunsBy (Err n) o m us vs saved r = (r ≡ bare n) × (vs ≡ us)
+RunsBy (Ok kind) (Some f) m us vs saved r = (r ≡ refusal f) × (vs ≡ us)
+RunsBy (Ok kind) None m us vs saved r = (r ≡ bare 0) × (t : State) × Serves kind m us vs t × saved t.journal
 
-abbrev pub KeptUnlessDone : Outcome → List ℕ → List ℕ → List ℕ → List ℕ → Type 0
-KeptUnlessDone r entries values entries' values' = (r.status == 0) ≡ false → (entries' ≡ entries) × (values' ≡ values)
+abbrev pub KeptUnlessDone : Outcome → Bytes → Bytes → Bytes → Bytes → Type 0
+KeptUnlessDone r pages saved pages' saved' = (r.status == 0) ≡ false → (pages' ≡ pages) × (saved' ≡ saved)

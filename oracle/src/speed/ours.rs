@@ -53,15 +53,31 @@ struct Turn {
     parts: Parts,
 }
 
+#[repr(C)]
+struct Slices {
+    entries: *mut u8,
+    entries_length: usize,
+    values: *mut u8,
+    values_length: usize,
+}
+
+impl Slices {
+    fn of(entries: &mut [u8], values: &mut [u8]) -> Self {
+        Self {
+            entries: entries.as_mut_ptr(),
+            entries_length: entries.len(),
+            values: values.as_mut_ptr(),
+            values_length: values.len(),
+        }
+    }
+}
+
 unsafe extern "C" {
     fn lundwazo_entries_size(limits: &Limits) -> usize;
     fn lundwazo_values_size(limits: &Limits) -> usize;
-    #[allow(clippy::too_many_arguments)]
     fn lundwazo_run(
-        entries: *mut u8,
-        entries_length: usize,
-        values: *mut u8,
-        values_length: usize,
+        pages: &mut Slices,
+        saved: &mut Slices,
         limits: &Limits,
         keys: u64,
         translator: u64,
@@ -137,6 +153,8 @@ impl Batch {
 struct Pages {
     entries: Vec<u8>,
     values: Vec<u8>,
+    saved_entries: Vec<u8>,
+    saved_values: Vec<u8>,
     translator: u64,
 }
 
@@ -149,20 +167,22 @@ impl Pages {
         Self {
             entries: vec![0; entries],
             values: vec![0; values],
+            saved_entries: vec![0; entries],
+            saved_values: vec![0; values],
             translator: leading.unwrap_or(0),
         }
     }
 
     /// Runs a batch, and says how long that took.
     fn run(&mut self, batch: &mut Batch) -> Duration {
+        let mut pages = Slices::of(&mut self.entries, &mut self.values);
+        let mut saved = Slices::of(&mut self.saved_entries, &mut self.saved_values);
         let start = Instant::now();
         // No two of the slices overlap, and each is as long as is said.
         let outcome = unsafe {
             lundwazo_run(
-                self.entries.as_mut_ptr(),
-                self.entries.len(),
-                self.values.as_mut_ptr(),
-                self.values.len(),
+                &mut pages,
+                &mut saved,
                 &LIMITS,
                 BOX_NUMBERS,
                 self.translator,
@@ -172,6 +192,9 @@ impl Pages {
         };
         let time = start.elapsed();
         assert_eq!(outcome.status, 0, "the pages are mounted");
+        // What was saved is what the next run mounts.
+        std::mem::swap(&mut self.entries, &mut self.saved_entries);
+        std::mem::swap(&mut self.values, &mut self.saved_values);
         assert_eq!(batch.turns[0].kind, LOADED, "the archive is loaded");
         time
     }
