@@ -23,6 +23,8 @@ pub struct Fleet {
     pub moves: Vec<Move>,
     /// As many boxes of the same owners that have none.
     pub absent: Vec<[u8; 11]>,
+    /// The boxes of the moves with a wrong check digit.
+    pub wrong: Vec<[u8; 11]>,
 }
 
 /// A box of one of 64 owners, with its check digit.
@@ -53,8 +55,15 @@ impl Fleet {
             value[11..].copy_from_slice(&n.to_be_bytes()[3..]);
             Move { number, key, value }
         });
+        let wrong = |m: &Move| {
+            let mut key = m.key;
+            key[10] = b'0' + (key[10] - b'0' + 1) % 10;
+            key
+        };
+        let moves: Vec<Move> = moves.collect();
         Self {
-            moves: moves.collect(),
+            wrong: moves.iter().map(wrong).collect(),
+            moves,
             absent: (all..2 * all).map(box_at).collect(),
         }
     }
@@ -62,6 +71,10 @@ impl Fleet {
     /// The move that the question at a place of the run is about.
     pub fn asked(&self, at: usize) -> &Move {
         &self.moves[at * 389 % self.moves.len()]
+    }
+
+    pub fn wrong(&self, at: usize) -> &[u8; 11] {
+        &self.wrong[at * 389 % self.wrong.len()]
     }
 
     pub fn absent(&self, at: usize) -> &[u8; 11] {

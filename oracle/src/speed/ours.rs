@@ -106,6 +106,7 @@ const HAS_KEY: u64 = 9;
 const HAS_BOTH: u64 = 10;
 const LIST_NUMBER: u64 = 11;
 
+const REFUSED: u64 = 1;
 const LOADED: u64 = 2;
 const STORED: u64 = 5;
 const STRUCK: u64 = 7;
@@ -237,6 +238,7 @@ fn questions(work: Work, fleet: &Fleet) -> Batch {
             Work::GetKey => batch.add(GET_KEY, 0, &m.key),
             Work::GetNoKey => batch.add(GET_KEY, 0, fleet.absent(at)),
             Work::HasNumber => batch.add(HAS_NUMBER, work.number(at), &[]),
+            Work::ReadKey => batch.add(HAS_KEY, 0, fleet.wrong(at)),
             Work::HasKey => batch.add(HAS_KEY, 0, &m.key),
             Work::HasBoth => batch.add(HAS_BOTH, m.number, &m.key),
             Work::ListNumber => batch.add(LIST_NUMBER, work.number(at), &[]),
@@ -258,6 +260,7 @@ fn seen(batch: &Batch) -> Seen {
             ABSENT => {}
             YES => seen.one(1),
             NO => seen.one(0),
+            REFUSED => seen.one(turn.parts.number),
             LISTED => seen.one(turn.parts.amount),
             other => panic!("an answer of kind {other}"),
         }

@@ -10,6 +10,7 @@ use crate::surroundings::{KEYS, MARKERS, VALUES};
 use crate::translator::AnyTranslator;
 use crate::value::Value;
 use crate::{Disk, run};
+use commonware_codec::Read;
 use std::hint::black_box;
 use std::num::{NonZeroU64, NonZeroUsize};
 use std::time::{Duration, Instant};
@@ -87,6 +88,11 @@ fn ask(work: Work, archive: &Held, fleet: &Fleet) -> (Duration, Seen) {
             Work::ListNumber => {
                 let values = run(archive.get_all(work.number(at))).expect("answered");
                 seen.one(values.map_or(0, |values| black_box(values).len() as u64));
+            }
+            Work::ReadKey => {
+                let key = BoxNumber::read_cfg(&mut &fleet.wrong(at)[..], &());
+                assert!(black_box(key).is_err(), "no key");
+                seen.one(17);
             }
             Work::Put | Work::Prune | Work::Load => unreachable!("not asked one by one"),
         }

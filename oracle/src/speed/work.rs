@@ -14,6 +14,9 @@ pub enum Work {
     HasKey,
     HasBoth,
     ListNumber,
+    /// Bytes that are no key are read, and refused. With the library this is a part of each call by key, since its exports take
+    /// bytes; the original takes keys that were made before, and the kind of key is a stand-in.
+    ReadKey,
     /// Section by section, until nothing is kept.
     Prune,
     /// Of all records, with the reading of what lies on the pages or on disk.
@@ -43,7 +46,7 @@ impl Seen {
 }
 
 impl Work {
-    pub const ALL: [Work; 11] = [
+    pub const ALL: [Work; 12] = [
         Work::Put,
         Work::GetNumber,
         Work::GetNoNumber,
@@ -53,6 +56,7 @@ impl Work {
         Work::HasKey,
         Work::HasBoth,
         Work::ListNumber,
+        Work::ReadKey,
         Work::Prune,
         Work::Load,
     ];
@@ -68,6 +72,7 @@ impl Work {
             Work::HasKey => "has a key",
             Work::HasBoth => "has both in one record",
             Work::ListNumber => "list by number",
+            Work::ReadKey => "key that is none",
             Work::Prune => "prune of a section",
             Work::Load => "load of all records",
         }
