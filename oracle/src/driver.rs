@@ -6,12 +6,11 @@ use super::*;
 use crate::desk::Voyage;
 use crate::keys::{BoxNumber, Digest, Kind};
 use crate::script::{Start, number, number_or_none, refused_by_us};
-use crate::surroundings::{KEYS, MARKERS, VALUES};
+use crate::surroundings::configured;
 use crate::translator::AnyTranslator;
 use crate::value::Value;
 use crate::{Begin, Disk, Original, run};
 use reading::{Held, told};
-use std::num::{NonZeroU64, NonZeroUsize};
 
 struct Sailing<K: Kind> {
     start: Start,
@@ -25,21 +24,7 @@ struct Sailing<K: Kind> {
 type Answered = Option<Result<String, Error>>;
 
 fn open_archive<K: Kind>(disk: &Disk, translator: AnyTranslator, size: u64) -> Result<Box<Held<K>>, Error> {
-    let buffer = NonZeroUsize::new(4_096).unwrap();
-    let config = Config {
-        translator,
-        metadata_partition: MARKERS.into(),
-        key_partition: KEYS.into(),
-        key_page_cache: Default::default(),
-        value_partition: VALUES.into(),
-        compression: None,
-        codec_config: (),
-        items_per_section: NonZeroU64::new(size).expect("the type has no 0"),
-        key_write_buffer: buffer,
-        value_write_buffer: buffer,
-        replay_buffer: buffer,
-    };
-    run(Held::<K>::init(disk.clone(), config)).map(Box::new)
+    run(Held::<K>::init(disk.clone(), configured(translator, size))).map(Box::new)
 }
 
 fn yes_or_no(yes: bool) -> String {

@@ -1,7 +1,10 @@
 //! What the original finds at the top of its own crate, and the disk under it.
 
+use crate::archive::prunable::Config;
+use crate::translator::AnyTranslator;
 use commonware_runtime::memory::{Mem, MemBlob};
 use commonware_runtime::{Error, Metrics, Storage};
+use std::num::{NonZeroU64, NonZeroUsize};
 
 pub trait Context: Storage + Metrics {}
 
@@ -32,6 +35,24 @@ impl Context for Disk {}
 pub const KEYS: &str = "keys";
 pub const VALUES: &str = "values";
 pub const MARKERS: &str = "markers";
+
+/// How the original is set up, with so many numbers to a section.
+pub fn configured(translator: AnyTranslator, size: u64) -> Config<AnyTranslator, ()> {
+    let buffer = NonZeroUsize::new(4_096).unwrap();
+    Config {
+        translator,
+        metadata_partition: MARKERS.into(),
+        key_partition: KEYS.into(),
+        key_page_cache: Default::default(),
+        value_partition: VALUES.into(),
+        compression: None,
+        codec_config: (),
+        items_per_section: NonZeroU64::new(size).expect("the type has no 0"),
+        key_write_buffer: buffer,
+        value_write_buffer: buffer,
+        replay_buffer: buffer,
+    }
+}
 
 /// What a row of the original holds beside its key: number, offset and size.
 const ROW_WITHOUT_KEY: usize = 20;

@@ -3,36 +3,22 @@
 use super::Took;
 use super::fleet::{ASKED, Fleet, NUMBERS, SIZE};
 use super::work::{Seen, Work};
-use crate::archive::prunable::{Archive, Config};
+use crate::archive::prunable::Archive;
 use crate::archive::{Archive as _, Identifier, MultiArchive as _};
 use crate::keys::{BoxNumber, Kind};
-use crate::surroundings::{KEYS, MARKERS, VALUES};
+use crate::surroundings::configured;
 use crate::translator::AnyTranslator;
 use crate::value::Value;
 use crate::{Disk, run};
 use commonware_codec::Read;
 use std::hint::black_box;
-use std::num::{NonZeroU64, NonZeroUsize};
 use std::time::{Duration, Instant};
 
 type Held = Archive<AnyTranslator, Disk, BoxNumber, Value>;
 
 fn open(disk: &Disk, translator: &str) -> Held {
-    let buffer = NonZeroUsize::new(4_096).unwrap();
-    let config = Config {
-        translator: AnyTranslator::named(translator).expect("a translator"),
-        metadata_partition: MARKERS.into(),
-        key_partition: KEYS.into(),
-        key_page_cache: Default::default(),
-        value_partition: VALUES.into(),
-        compression: None,
-        codec_config: (),
-        items_per_section: NonZeroU64::new(SIZE).unwrap(),
-        key_write_buffer: buffer,
-        value_write_buffer: buffer,
-        replay_buffer: buffer,
-    };
-    run(Held::init(disk.clone(), config)).expect("the archive opens")
+    let translator = AnyTranslator::named(translator).expect("a translator");
+    run(Held::init(disk.clone(), configured(translator, SIZE))).expect("the archive opens")
 }
 
 /// What is stored is made beforehand; the original takes keys by value.
