@@ -3,7 +3,6 @@
 --   refused f         the answer that shows the parts f of a refusal
 --   told_reply r      what is told of the reply r
 --   told w            what is told of a turn that says w
--- No two answers are told alike.
 use Rattle.std.specs.Prelude.{ℕ, true, false, Some, None, Ok, Err, Option}
 use Rattle.keys.specs.declared.fault.FaultParts.{FaultParts}
 use Rattle.rules.specs.declared.answer.Put.{Put}
