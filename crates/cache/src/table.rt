@@ -11,11 +11,10 @@ use crate::row_copy::RowCopy;
 fn find(slots: &[Option<RowCopy>], start: u64, position: u64) -> Option<RowCopy>
     ensures { result ≡ find_slot slots.now start position }
 {
-    slots
-        .iter()
-        .copied()
-        .flatten()
-        .find(|copy| copy.is_of(start, position))
+    let at = slots.iter().position(|slot| slot
+        .as_ref()
+        .is_some_and(|copy| copy.is_of(start, position)))?;
+    slots[at]
 }
 
 // Empties the places of rows whose section starts below `min`.

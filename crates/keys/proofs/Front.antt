@@ -1,5 +1,8 @@
 -- The first bytes of a key with zeros behind them, and their number in 64 bits.
-use Rattle.std.proofs.Common.{◌≡◌, ℕ, zero, suc, ◌+◌, ◌*◌, ◌^◌, ◌<◌, ◌≤◌, min, List, [], ◌∷◌, ◌++◌, length, get_or, take, drop, replicate, fold, refl, ap, ◌∙◌, arith, pow_mono, pow-add}
+use Rattle.std.proofs.Common.{◌≡◌, ℕ, zero, suc, ◌+◌, ◌-◌, ◌*◌, ◌^◌, ◌<◌, ◌≤◌, min, List, [], ◌∷◌, ◌++◌, length, get_or, take, drop, replicate, fold, refl, sym, ap, ◌∙◌, arith, pow_mono, pow-add}
+use Rattle.std.proofs.Math.Seq.{take-append-add}
+use Rattle.std.proofs.lemmas.List.{length-take-le}
+use Rattle.std.proofs.lemmas.List.Sums.{fold-append}
 use Rattle.keys.specs.Translators.{behind, leading}
 
 -- Each byte more is added behind without a loss, as long as there are no more than eight.
@@ -45,3 +48,17 @@ pub front_number : (key : List ℕ) (n g : ℕ) → n ≤ 8 → g ≡ min (lengt
 front_number key n g h e b =
     ap (fold behind 0) (laid_over key n 8 n g h (omega arith) e)
     ∙ behind_kept (take n (key ++ replicate n 0)) 0 0 (omega arith) (let l = front_few (key ++ replicate n 0) n in omega (arith, l)) (front_bytes key n n b)
+
+front_parts : (key zs : List ℕ) (n g : ℕ) → g ≡ min (length key) n → take n (take g key ++ zs) ≡ take g key ++ take (n - g) zs
+front_parts key zs n g e =
+    let l : length (take g key) ≡ g = length-take-le g key (omega (arith, e)) in
+    let s : n ≡ length (take g key) + (n - g) = omega (arith, l, e) in
+    ap (λ (m : ℕ). take m (take g key ++ zs)) s ∙ take-append-add (take g key) zs (n - g)
+
+-- First the bytes that there are, and then the zeros.
+pub front_folds : (key : List ℕ) (n g a b : ℕ) → n ≤ 8 → g ≡ min (length key) n → ((i : ℕ) → get_or key i 0 < 256)
+    → a ≡ fold behind 0 (take g key) → b ≡ fold behind a (take (n - g) (drop g (replicate 8 0))) → b ≡ leading n key
+front_folds key n g a b h e bytes ea eb =
+    let zs : List ℕ = take (n - g) (drop g (replicate 8 0)) in
+    eb ∙ ap (λ (x : ℕ). fold behind x zs) ea ∙ sym (fold-append behind 0 (take g key) zs)
+    ∙ ap (fold behind 0) (sym (front_parts key (drop g (replicate 8 0)) n g e)) ∙ front_number key n g h e bytes

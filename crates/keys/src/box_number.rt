@@ -91,23 +91,25 @@ fn shows(digit: Option<u8>, b: u8) -> bool
     digit.is_some_and(|d| u32::from(b) == 48 + u32::from(d))
 }
 
-// Whether the place holds what it may; the check digit is asked for last, after all that it is reckoned from.
-fn place_ok(bytes: &[u8; 11], place: usize) -> bool
-    requires { place < 11 }
-    ensures { result ≡ iso.place_ok bytes.now place }
-{
-    match place {
-        0..=2 => is_letter(bytes[place]),
-        3 => is_category(bytes[place]),
-        4..=9 => is_digit(bytes[place]),
-        _ => shows(digit_of(sum_of(bytes)), bytes[place]),
-    }
-}
-
+// The first place that does not hold what it may, kind by kind, so that no place is asked which kind it is of. The check digit
+// comes last, after all that it is reckoned from.
 fn first_bad(bytes: &[u8; 11]) -> Option<usize>
     ensures { result ≡ iso.first_bad bytes.now 0 11 }
 {
-    (0..11).find(|place| !place_ok(bytes, *place))
+    if let Some(place) = (0..3).find(|place| !is_letter(bytes[*place])) {
+        return Some(place);
+    }
+    if !is_category(bytes[3]) {
+        return Some(3);
+    }
+    if let Some(place) = (4..10).find(|place| !is_digit(bytes[*place])) {
+        return Some(place);
+    }
+    if shows(digit_of(sum_of(bytes)), bytes[10]) {
+        None
+    } else {
+        Some(10)
+    }
 }
 
 impl BoxNumber {
@@ -163,12 +165,12 @@ impl Key for BoxNumber {
 
     fn read(&mut self, from: &[u8]) -> Result<(), KeyFault> {
         let bytes = exactly::<11>(from)?;
-        if let Some(place) = first_bad(&bytes) {
+        if let Some(place) = first_bad(bytes) {
             return Err(KeyFault::NotAKey {
                 amount: place as u64,
             });
         }
-        *self = BoxNumber { bytes };
+        *self = BoxNumber { bytes: *bytes };
         Ok(())
     }
 }

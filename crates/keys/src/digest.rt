@@ -52,7 +52,7 @@ impl Key for Digest {
 
     fn read(&mut self, from: &[u8]) -> Result<(), KeyFault> {
         let bytes = exactly::<32>(from)?;
-        *self = Digest { bytes };
+        *self = Digest { bytes: *bytes };
         Ok(())
     }
 }

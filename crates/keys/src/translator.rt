@@ -56,11 +56,13 @@ impl Translator for Leading {
     fn translate(&self, key: &[u8]) -> u64 {
         let count = self.count();
         let given = key.len().min(count);
-        let mut front = [0; 8];
-        front[..given].copy_from_slice(&key[..given]);
-        front[..count]
+        let number = key[..given]
             .iter()
-            .fold(0, |number, b| with_byte(number, *b))
+            .fold(0, |number, b| with_byte(number, *b));
+        // Zeros follow a key that is shorter.
+        [0; 8][given..count]
+            .iter()
+            .fold(number, |number, b| with_byte(number, *b))
     }
 
     fn hash(&self, code: u64) -> u64 {
