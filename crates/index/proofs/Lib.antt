@@ -1,3 +1,4 @@
+pub mod Columns
 pub mod Slots
 pub mod Rows
 pub mod Chains

@@ -1,17 +1,40 @@
 -- The rows of a section, and the links that lead through them.
+--   held t     those that there are, column by column
 --   blank      a row of zeros without links
 --   offsets_of, codes_of, buckets_of   what rows have, by position
 --   Leads rows b o   the chain of the bucket b goes on at the position o, or ends there
 --   followed rows o n   the rows, where the one at the position o leads on to n
 --   Linked d rows numbers heads   d different offsets; of each the first and the last row, of each bucket the last one, and
 --              each row's links: to the next of its offset, and to the last one before it of its bucket
-use Rattle.std.specs.Prelude.{◌≡◌, ℕ, ◌<◌, ◌≤◌, List, length, map, Some, None, Option, option_map, slice_set, slice_index, slice_index_or}
+use Rattle.std.specs.Prelude.{◌≡◌, ℕ, ◌<◌, ◌≤◌, zero, suc, List, [], ◌∷◌, ◌++◌, length, map, Some, None, Option, option_map, slice_set, slice_index, slice_index_or}
 use Rattle.index_layout.specs.Links.{earliest, latest, following, fresh, link, linked}
 use Rattle.index.specs.declared.row.Row.{Row}
 use Rattle.index.specs.declared.row.Ends.{Ends}
+use Rattle.index.specs.declared.row_table.RowTable.{RowTable}
 
 abbrev pub blank : Row
 blank = record { code = 0; offset = 0; bucket = 0; next = None; below = None }
+
+-- Columns, the row at a place of them, and the rows before one.
+pub record Columns : Type 0 where
+  pub codes : List ℕ
+  pub offsets : List ℕ
+  pub buckets : List ℕ
+  pub next : List ℕ
+  pub below : List ℕ
+
+abbrev pub row_in : Columns → ℕ → Row
+row_in t p = record { code = slice_index t.codes p; offset = slice_index t.offsets p; bucket = slice_index t.buckets p; next = linked (slice_index t.next p); below = linked (slice_index t.below p) }
+
+abbrev pub rows_to : Columns → ℕ → List Row
+rows_to t zero = []
+rows_to t (suc n) = rows_to t n ++ row_in t n ∷ []
+
+abbrev pub columns_of : RowTable → Columns
+columns_of t = record { codes = t.codes; offsets = t.offsets; buckets = t.buckets; next = t.next; below = t.below }
+
+abbrev pub held : RowTable → List Row
+held t = rows_to (columns_of t) t.count
 
 abbrev pub offsets_of : List Row → List ℕ
 offsets_of rows = map (λ r. r.offset) rows

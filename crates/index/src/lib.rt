@@ -7,4 +7,5 @@ pub mod index;
 pub mod key_code;
 mod marks;
 mod row;
+mod row_table;
 pub mod section;

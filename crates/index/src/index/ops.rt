@@ -1,6 +1,6 @@
 // What the index does: slots found, taken and struck, records noted and looked for.
 
-ghost use Rattle.std.specs.Prelude.{◌≡◌, ℕ, ◌+◌, ◌*◌, ◌/◌, ◌%◌, ◌^◌, ◌<◌, ◌≤◌, true, false, ◌&&◌, map, is_ok, IfSome, if◌then◌else◌, MatchOption, slice_set};
+ghost use Rattle.std.specs.Prelude.{◌≡◌, ℕ, ◌+◌, ◌*◌, ◌/◌, ◌%◌, ◌^◌, ◌<◌, ◌≤◌, true, false, None, ◌&&◌, map, is_ok, IfSome, if◌then◌else◌, MatchOption, slice_set, slice_index_or};
 ghost use Rattle.std.specs.Option.{option_copied};
 ghost use Rattle.index_layout.specs.Views.{free_view, grown, takes, goes, bucket_of, kept_view, view_at, first_in, next_in, newest_in, older_in};
 ghost use Rattle.index_layout.specs.Held.{found, slot_of, Shut, Opened, start_in, has_room, Noted, Seated, total, weight, under, numbers, records, in_slot};
@@ -57,12 +57,35 @@ fn add_in(slot: &mut Option<Section>, offset: u64, key: KeyCode) -> Result<(), N
     }
 }
 
-/// Frees a slot whose section begins below a minimum, and hands that out.
-fn take_below(slot: &mut Option<Section>, min: u64) -> Option<Section>
-    ensures left { slot_view slot.new ≡ kept_view min (slot_view slot.old) }
-    ensures taken { slot_view result ≡ (if goes min (slot_view slot.old) then slot_view slot.old else free_view) }
+/// The same by the slot's number, among all of them.
+// By itself, since the check takes a loan of a member of a `Copy` type from the whole array, and not from a field.
+fn add_at(
+    slots: &mut [Option<Section>; 16],
+    slot: usize,
+    offset: u64,
+    key: KeyCode,
+) -> Result<(), NoRoom>
+    requires { slot < 16 }
+    ensures is { is_ok result ≡ ((slot_view (slice_index_or slots.old slot None)).used && takes (slot_view (slice_index_or slots.old slot None)) offset) }
+    ensures view { slot_view (slice_index_or slots.new slot None) ≡ (if is_ok result then grown (slot_view (slice_index_or slots.old slot None)) offset key.code (bucket_of key.hash) else slot_view (slice_index_or slots.old slot None)) }
+    ensures others { slots.new ≡ slice_set slots.old slot (slice_index_or slots.new slot None) }
 {
-    slot.take_if(|section| section.is_below(min))
+    add_in(&mut slots[slot], offset, key)
+}
+
+/// Frees a slot whose section begins below a minimum, and counts what goes with it. Looked at where it lies: a section handed
+/// out would be copied whole.
+fn strike_slot(slot: &mut Option<Section>, min: u64, struck: &mut Tally)
+    requires { (struck.old.numbers < 2 ^ 32) × (struck.old.records < 2 ^ 32) }
+    ensures left { slot_view slot.new ≡ kept_view min (slot_view slot.old) }
+    ensures numbers { struck.new.numbers ≡ struck.old.numbers + weight (under min numbers) (slot_view slot.old) }
+    ensures records { struck.new.records ≡ struck.old.records + weight (under min records) (slot_view slot.old) }
+    ensures few { (struck.new.numbers ≤ struck.old.numbers + 128) × (struck.new.records ≤ struck.old.records + 128) }
+{
+    if slot.as_ref().is_some_and(|section| section.is_below(min)) {
+        struck.add(slot);
+        *slot = None;
+    }
 }
 
 impl Index {
@@ -154,7 +177,7 @@ impl Index {
         }
         // Marked also where the record is refused then: a mark for nothing costs a look, and no record may go without.
         mark(&mut self.marks, key.code, slot);
-        add_in(&mut self.slots[slot], offset, key)
+        add_at(&mut self.slots, slot, offset, key)
     }
 
     /// One more record of the section that begins at a start, for which a slot is taken where none holds it.
@@ -221,7 +244,7 @@ impl Index {
     {
         let mut struck = Tally::default();
         for slot in self.slots.iter_mut() {
-            struck.add(&take_below(slot, min));
+            strike_slot(slot, min, &mut struck);
         }
         struck
     }

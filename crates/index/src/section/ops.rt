@@ -1,19 +1,17 @@
 // What a section of the index does.
 
 ghost use Rattle.std.specs.Prelude.{◌≡◌, ℕ, ◌+◌, ◌-◌, ◌%◌, ◌<◌, ◌≤◌, true, false, ◌&&◌, length, IfSome, is_ok, if◌then◌else◌, ◌==◌, nat_lt, slice_index};
-ghost use Rattle.arrayvec.specs.ArrayVec.{array_vec_len};
 ghost use Rattle.index_layout.specs.Links.{latest, link, linked, matching};
 ghost use Rattle.index_layout.specs.Views.{open_view, grown, takes, goes, bucket_of, first_in, next_in, newest_in, older_in};
 ghost use Rattle.index_layout.specs.Held.{holds, numbers, records};
-ghost use Rattle.index.specs.Rows.{buckets_of, codes_of, Leads};
+ghost use Rattle.index.specs.Rows.{held, buckets_of, codes_of, Leads};
 ghost use Rattle.index_layout.specs.Candidates.{has_candidate, reaches};
 ghost use Rattle.index.specs.Viewed.{viewed};
 
 use crate::key_code::KeyCode;
-use crate::row::ops::follow;
 use crate::row::{Ends, Row};
+use crate::row_table::RowTable;
 use crate::section::{NoRoom, Section};
-use arrayvec::ArrayVec;
 
 impl Section {
     /// A section that begins at a start, with no record.
@@ -23,7 +21,7 @@ impl Section {
         Section {
             start,
             distinct: 0,
-            rows: ArrayVec::new(),
+            rows: RowTable::new(),
             numbers: [None; 64],
             heads: [None; 128],
         }
@@ -92,7 +90,7 @@ impl Section {
         });
         self.heads[bucket as usize] = Some(at);
         let ends = self.numbers[number];
-        follow(&mut self.rows, ends, at);
+        self.rows.follow(ends, at);
         self.numbers[number] = Some(Ends::extended(ends, at));
         self.distinct += usize::from(ends.is_none());
         Ok(())
@@ -112,19 +110,19 @@ impl Section {
         ensures is { result ≡ next_in (viewed self.now) position }
         ensures within { IfSome result (λ p. (position < p) × (p < 128)) }
     {
-        self.rows.get(position as usize)?.next.map(u64::from)
+        self.rows.get(position)?.next.map(u64::from)
     }
 
     /// The newest record with this translated key in the chain of a bucket, from a position on.
     fn matched(&self, from: Option<u8>, bucket: u8, code: u64) -> Option<u64>
-        requires { Leads self.now.rows.items bucket from }
-        ensures is { result ≡ linked (matching (buckets_of self.now.rows.items) (codes_of self.now.rows.items) bucket code (link from)) }
+        requires { Leads (held self.now.rows) bucket from }
+        ensures is { result ≡ linked (matching (buckets_of (held self.now.rows)) (codes_of (held self.now.rows)) bucket code (link from)) }
         ensures before { IfSome result (λ p. p < link from) }
     {
         let mut at = from;
         // Along links, each to a lower position: nothing is counted to.
         while let Some(position) = at {
-            let row = self.rows[position as usize];
+            let row = self.rows.row(position);
             if row.code == code {
                 return Some(u64::from(position));
             }
@@ -155,7 +153,7 @@ impl Section {
         ensures few { IfSome result (λ p. p < 128) }
         ensures before { IfSome result (λ p. p < position) }
     {
-        let row = self.rows.get(position as usize)?;
+        let row = self.rows.get(position)?;
         if row.bucket != key.bucket() {
             return None;
         }

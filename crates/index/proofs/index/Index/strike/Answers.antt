@@ -6,7 +6,7 @@ use Rattle.index_layout.proofs.Apart.{apart_kept}
 use Rattle.index_layout.proofs.Marks.{marked_kept}
 use Rattle.index_layout.proofs.Held.{summed_more}
 use Rattle.index_layout.proofs.Slots.{struck_step, struck_end}
-use Rattle.index_layout.proofs.Through.{at_view, put_view, length_views, gone_weight}
+use Rattle.index_layout.proofs.Through.{at_view, put_view, length_views}
 use Rattle.index.specs.Viewed.{slot_view}
 use Rattle.index.specs.Slots.{views}
 use Rattle.index.proofs.index.Index.strike.Goals as goal
@@ -20,17 +20,17 @@ loop-slot-preserved c =
     let n = length_views slot_view xs 16 c.loop-slot.invariant.long in
     let l : i < length (views was) = omega (arith, length_views slot_view was.slots 16 was.sized) in
     let at = at_view slot_view xs i c.slot-item.result (omega arith) in
-    let s = struck_step (map slot_view xs) (map slot_view (set xs i c.take_below.new.slot)) (views was) i min (omega arith)
-    (put_view slot_view xs i c.take_below.new.slot _ (c.take_below.ensures.left ∙ ap (kept_view min) (sym at))) c.loop-slot.invariant.done c.loop-slot.invariant.left in
+    let s = struck_step (map slot_view xs) (map slot_view (set xs i c.strike_slot.new.slot)) (views was) i min (omega arith)
+    (put_view slot_view xs i c.strike_slot.new.slot _ (c.strike_slot.ensures.left ∙ ap (kept_view min) (sym at))) c.loop-slot.invariant.done c.loop-slot.invariant.left in
     let same = sym at ∙ c.loop-slot.invariant.left i (omega arith) in
     record {
       long = simp length-set (omega arith);
       done = s.0;
       left = s.1;
       numbers = summed_more (under min numbers) (views was) i c.loop-slot.struck.numbers _ _ l c.loop-slot.invariant.numbers
-          (ap (weight numbers) c.take_below.ensures.taken ∙ gone_weight min numbers _ ∙ ap (weight (under min numbers)) same) c.add.ensures.numbers c.add.ensures.few.0;
+          (ap (weight (under min numbers)) same) c.strike_slot.ensures.numbers c.strike_slot.ensures.few.0;
       records = summed_more (under min records) (views was) i c.loop-slot.struck.records _ _ l c.loop-slot.invariant.records
-          (ap (weight records) c.take_below.ensures.taken ∙ gone_weight min records _ ∙ ap (weight (under min records)) same) c.add.ensures.records c.add.ensures.few.1;
+          (ap (weight (under min records)) same) c.strike_slot.ensures.records c.strike_slot.ensures.few.1;
     }
 
 pub invariant_of-self : goal.invariant_of-self

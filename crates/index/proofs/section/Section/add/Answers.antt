@@ -1,13 +1,13 @@
 use Rattle.std.proofs.Common.{◌≡◌, ◌+◌, ◌<◌, ◌≤◌, ℕ, ◌∷◌, [], ◌++◌, length, cond, is_some, not, true, false, Bool, None, get_or, sym, ap, ◌∙◌, refl, arith, ltb, add-zero}
 use Rattle.std.specs.Int.{from_bool}
-use Rattle.std.proofs.lemmas.Bool.{and_left, and_right, le-ltb, eqb-true}
+use Rattle.std.proofs.lemmas.Bool.{and_left, and_right, le-ltb, eqb-true, eqb-false}
 use Rattle.std.proofs.lemmas.List.{length-map}
-use Rattle.std.proofs.lemmas.Grind.{common_steps}
 use Rattle.index_layout.proofs.Growing.{same_view}
 use Rattle.index_layout.proofs.Links.{latest_le}
 use Rattle.index_layout.proofs.Offsets.{fresh_le}
 use Rattle.index.specs.declared.row.Row.{Row}
-use Rattle.index.specs.Rows.{offsets_of, codes_of, buckets_of, last_in, followed}
+use Rattle.index.specs.Rows.{held, offsets_of, codes_of, buckets_of, last_in, followed}
+use Rattle.index.proofs.Columns.{linked_below}
 use Rattle.index.proofs.Rows.{last_below, followed_length, followed_push, linked_push}
 use Rattle.index.proofs.section.Section.add.Goals as goal
 use Rattle.index.proofs.section.Section.add.Goals.{then-offset-ge64-via-then-offset-ge64, then-offset-ge64-via-else-offset-ge64+then-is_full}
@@ -26,28 +26,42 @@ returns-then-offset-ge64-clause-result c =
     elim c.then-offset-ge64.branch [
       | then-offset-ge64-via-then-offset-ge64 w ↦ sym (and_left _ _ (le-ltb c.args.offset 64 (omega arith)))
       | then-offset-ge64-via-else-offset-ge64+then-is_full w ↦
-          sym (and_right (ltb c.args.offset 64) _ (le-ltb (length (offsets_of s.rows.items)) 128
-          (omega (arith, length-map s.rows.items (λ r. r.offset), eqb-true (length s.rows.items) 128 (sym w.is_full.ensures.value ∙ w.if-is_full.true)))))
+          sym (and_right (ltb c.args.offset 64) _ (le-ltb (length (offsets_of (held s.rows))) 128
+          (omega (arith, length-map (held s.rows) (λ r. r.offset), eqb-true (length (held s.rows)) 128 (sym w.is_full.ensures.value ∙ w.if-is_full.true)))))
     ]
 
 pub follow-requires : goal.follow-requires
 follow-requires c =
     let s = c.args.self.now in
-    last_below _ _ _ (s.linked.ended c.args.offset (omega arith)) (omega (arith, latest_le (offsets_of s.rows.items) c.args.offset (length s.rows.items)))
+    let room : length (held s.rows) < 128 = omega (arith, c.is_full.ensures.fits, eqb-false (length (held s.rows)) 128 (sym c.is_full.ensures.value ∙ c.if-is_full.false)) in
+    record {
+      last = last_below _ _ (length (held c.push.new.self)) (s.linked.ended c.args.offset (omega arith)) (omega (arith, latest_le (offsets_of (held s.rows)) c.args.offset (length (held s.rows)), c.push.ensures.len));
+      next = omega (arith, c.len-at.ensures.value, room);
+    }
+
+pub push-requires : goal.push-requires
+push-requires c =
+    let s = c.args.self.now in
+    let room : length (held s.rows) < 128 = omega (arith, c.is_full.ensures.fits, eqb-false (length (held s.rows)) 128 (sym c.is_full.ensures.value ∙ c.if-is_full.false)) in
+    record {
+      room = room;
+      next = tt;
+      below = linked_below _ _ 128 (s.linked.headed c.bucket-bucket.result c.bucket-bucket.ensures.below) (omega (arith, room, latest_le (buckets_of (held s.rows)) c.bucket-bucket.result (length (held s.rows))));
+    }
 
 pub overflow_add-self : goal.overflow_add-self
 overflow_add-self c =
     let s = c.args.self.now in
-    omega (arith, s.linked.counted, fresh_le (offsets_of s.rows.items) (length s.rows.items), byte_le c.is_none.result)
+    omega (arith, s.linked.counted, fresh_le (offsets_of (held s.rows)) (length (held s.rows)), byte_le c.is_none.result)
 
 pub invariant_of-self : goal.invariant_of-self
 invariant_of-self c =
     let s = c.args.self.now in
     let r : Row = record { code = c.args.key.code; offset = c.args.offset; bucket = c.bucket-bucket.result; next = None; below = get_or s.heads c.bucket-bucket.result None } in
-    let room : length s.rows.items < 128 = grind (arith, common_steps) in
-    let links = linked_push s.rows.items s.numbers s.heads r c.len-at.result s.distinct (sym c.len-at.ensures.value) s.linked (omega arith) (omega arith) (omega arith) (omega arith) refl refl in
+    let room : length (held s.rows) < 128 = omega (arith, c.is_full.ensures.fits, eqb-false (length (held s.rows)) 128 (sym c.is_full.ensures.value ∙ c.if-is_full.false)) in
+    let links = linked_push (held s.rows) s.numbers s.heads r c.len-at.result s.distinct (sym c.len-at.ensures.value) s.linked (omega arith) (omega arith) (omega arith) (omega arith) refl refl in
     record {
-      few = omega (arith, ap length c.follow.ensures, followed_length c.push.new.self.items (last_in (get_or s.numbers c.args.offset None)) c.len-at.result, c.push.ensures.len, room);
+      few = omega (arith, ap length c.follow.ensures, followed_length (held c.push.new.self) (last_in (get_or s.numbers c.args.offset None)) c.len-at.result, c.push.ensures.len, room);
       linked = rw (c.from.ensures, counted s.distinct c.is_none.result (is_some (get_or s.numbers c.args.offset None)) c.is_none.ensures, c.follow.ensures, c.push.ensures.items, c.extended.ensures) links;
     }
 
@@ -58,6 +72,6 @@ returns-clause-view c =
     let o = last_in (get_or s.numbers c.args.offset None) in
     let e = c.follow.ensures ∙ ap (λ rows. followed rows o c.len-at.result) c.push.ensures.items in
     same_view true s.start _ _ _ _ _ _
-    (ap offsets_of e ∙ followed_push (λ q. q.offset) (λ q n. refl) s.rows.items r o c.len-at.result)
-    (ap codes_of e ∙ followed_push (λ q. q.code) (λ q n. refl) s.rows.items r o c.len-at.result)
-    (ap buckets_of e ∙ followed_push (λ q. q.bucket) (λ q n. refl) s.rows.items r o c.len-at.result ∙ ap (λ b. buckets_of s.rows.items ++ b ∷ []) c.bucket-bucket.ensures.is)
+    (ap offsets_of e ∙ followed_push (λ q. q.offset) (λ q n. refl) (held s.rows) r o c.len-at.result)
+    (ap codes_of e ∙ followed_push (λ q. q.code) (λ q n. refl) (held s.rows) r o c.len-at.result)
+    (ap buckets_of e ∙ followed_push (λ q. q.bucket) (λ q n. refl) (held s.rows) r o c.len-at.result ∙ ap (λ b. buckets_of (held s.rows) ++ b ∷ []) c.bucket-bucket.ensures.is)
