@@ -1,19 +1,20 @@
 -- Walks along the records of a number, as loops make them. Assumes nothing.
-use Rattle.std.proofs.Common.{◌≡◌, ℕ, ◌+◌, true, false, ◌⊎◌, List, [], ◌∷◌, ◌++◌, length, drop, is_some, Some, None, Option, sym, ap, ◌∙◌, subst, inl, inr}
-use Rattle.std.specs.List.{slice_get}
+use Rattle.std.proofs.Common.{◌≡◌, ℕ, ◌+◌, ◌<◌, ◌≤◌, true, false, eqb, ◌⊎◌, List, [], ◌∷◌, ◌++◌, length, drop, is_some, Some, None, Option, sym, ap, ◌∙◌, subst, inl, inr, arith, length-append}
+use Rattle.std.specs.List.{AllByRecursion, slice_get}
 use Rattle.std.proofs.lemmas.List.{drop_at, length-map, map-append}
-use Rattle.std.proofs.lemmas.Bool.{cond-true, cond-false, cases_Bool, eq-eqb, both_ways}
-use Rattle.journal.specs.Meaning.{Meaning, Row, rows_of, row_at}
+use Rattle.std.proofs.lemmas.Bool.{cond-true, cond-false, cond_both, cases_Bool, eq-eqb, both_ways}
+use Rattle.journal.specs.Meaning.{Meaning, Section, Row, Within, rows_of, row_at}
 use Rattle.rules.specs.State.{Record, place_of, records_of, those, some_in, same_bytes, bears_number, bears_both, places_of}
 use Rattle.index_layout.specs.Views.{View, first_in, next_in}
 use Rattle.index_layout.specs.Held.{found}
 use Rattle.archive_layout.specs.Fit.{Coding}
-use Rattle.archive_layout.specs.Walks.{filed_at, rest, WalksNumber}
+use Rattle.archive_layout.specs.Walks.{filed_at, rest, from_link, WalksNumber}
 use Rattle.archive_layout.specs.Keys.{front, spot_in}
 use Rattle.archive_layout.specs.Promises.{bearer_of, Numbered}
+use Rattle.archive_layout.proofs.Fits.{small}
 use Rattle.archive_layout.proofs.Rests.{rest_yes}
 use Rattle.archive_layout.proofs.Numbers.{at_home}
-use Rattle.archive_layout.proofs.Chains.{begins, goes_on, ends, both_under, both_none, both_some}
+use Rattle.archive_layout.proofs.Chains.{begins, goes_on, ends, length_rest, both_under, both_none, both_some}
 
 module _ {k : Coding} {width l n s offset : ℕ} {m : Meaning} {vs : List View} (at : Numbered k width l m vs n s offset) where
   pub came_none : (o : Option ℕ) → o ≡ first_in (found vs s) offset → WalksNumber n s (rows_of m.sections s) [] o
@@ -40,6 +41,13 @@ module _ {k : Coding} {width l n s offset : ℕ} {m : Meaning} {vs : List View} 
     came_more p f = goes_on k width l m vs n s at.fit at.lawful at.home done q here.0 p (subst (λ x. WalksNumber n s (rows_of m.sections s) done x) e w) here.1 here.2 f
 
     -- There are more than the walk has come by.
+    pub came_less : length done < length (those (bears_number n) (records_of m.sections))
+    came_less =
+        let x = subst (λ y. WalksNumber n s (rows_of m.sections s) done y) e w in
+        let a = ap length (at_home k width l m vs n s at.fit at.lawful at.home ∙ x.all ∙ ap (λ ys. done ++ ys) (rest_yes (bears_number n) s (rows_of m.sections s) q here.0 here.1 (eq-eqb _ _ here.2))) in
+        let b = length-append done (filed_at s q here.0 ∷ rest (bears_number n) s (rows_of m.sections s) (q + 1)) in
+        omega arith
+
     -- Its place follows those of the walk in a listing.
     pub listed_there : drop (length done) (places_of (those (bears_number n) (records_of m.sections))) ≡ record { number = n; position = q } ∷ places_of (rest (bears_number n) s (rows_of m.sections s) (q + 1))
     unfolding came_at
@@ -52,6 +60,25 @@ module _ {k : Coding} {width l n s offset : ℕ} {m : Meaning} {vs : List View} 
 
   pub came_all : (done : List Record) (o : Option ℕ) → o ≡ None → WalksNumber n s (rows_of m.sections s) done o → those (bears_number n) (records_of m.sections) ≡ done
   came_all done o e w = ends k width l m vs n s at.fit at.lawful at.home done (subst (λ x. WalksNumber n s (rows_of m.sections s) done x) e w)
+
+  -- No number has more records than a section has rows.
+  pub came_most : length (those (bears_number n) (records_of m.sections)) ≤ 128
+  came_most =
+      let a = ap length (at_home k width l m vs n s at.fit at.lawful at.home) in
+      let b = length_rest (bears_number n) s 0 (rows_of m.sections s) in
+      let c = rows_few m.sections at.lawful.within in
+      let d = (small m.limits at.fit.limits).rows in
+      omega arith
+    where
+      rows_few : (xs : List Section) → AllByRecursion (Within m.limits) xs → length (rows_of xs s) ≤ m.limits.rows
+      rows_few [] h = omega arith
+      rows_few (x ∷ xs) h = cond_both (eqb x.start s) x.rows (rows_of xs s) (λ ys. length ys ≤ m.limits.rows) (λ _. h.0.rows) (λ _. rows_few xs h.1)
+
+  pub came_length : (done : List Record) (o : Option ℕ) → WalksNumber n s (rows_of m.sections s) done o → length done ≤ length (those (bears_number n) (records_of m.sections))
+  came_length done o w =
+      let a = ap length (at_home k width l m vs n s at.fit at.lawful at.home ∙ w.all) in
+      let b = length-append done (rest (bears_number n) s (rows_of m.sections s) (from_link o (length (rows_of m.sections s)))) in
+      omega arith
 
   -- Where the earliest record lies.
   pub first_there : (o : Option ℕ) (q : ℕ) → o ≡ Some q → WalksNumber n s (rows_of m.sections s) [] o

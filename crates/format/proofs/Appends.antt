@@ -29,7 +29,7 @@ ready v t start w k =
 pub takes_found : (v : View) (t start : ℕ) → Some t ≡ found (bears v.limits v.entries start) v.limits.slots → Takes v t start
 takes_found v t start e = let f = found_some (bears v.limits v.entries start) v.limits.slots t (sym e) in record { slot = f.0; own = inl f.1 }
 
-takes_vacant : (v : View) (t start : ℕ) → Well v → None ≡ found (bears v.limits v.entries start) v.limits.slots → Some t ≡ found (empty_at v.limits v.entries) v.limits.slots → Takes v t start
+pub takes_vacant : (v : View) (t start : ℕ) → Well v → None ≡ found (bears v.limits v.entries start) v.limits.slots → Some t ≡ found (empty_at v.limits v.entries) v.limits.slots → Takes v t start
 takes_vacant v t start w n e =
     let f = found_some (empty_at v.limits v.entries) v.limits.slots t (sym e) in
     record { slot = f.0; own = inr ((w.pages t f.0).free (eqb-true _ _ f.1), sym n) }

@@ -92,13 +92,13 @@ module _ (l : Limits) (p vs : List ℕ) (good : GoodPage l p) (lp : length p ≡
       rest_is (row_place w c) (row_size w) (omega arith)
       ∙ chunk_put_whole p (row_place w c) (row_size w) row (sym long) (omega (arith, step_le c l.rows (row_size w) room))
 
-  start_new : start_of p' ≡ start
+  pub start_new : start_of p' ≡ start
   unfolding start_of sealed
   start_new =
       ap be (chunk_inside p' 0 head_size 0 8 0 refl (omega arith) ∙ (ap (λ t. chunk t 0 8) head_is
       ∙ chunk_front (be_8 start) (be_4 (c + 1) ++ be_4 (entry_check (head_front start (c + 1)))) _ refl 8 refl)) ∙ be_be_8 start ns
 
-  count_new : count_of p' ≡ c + 1
+  pub count_new : count_of p' ≡ c + 1
   unfolding count_of sealed
   count_new =
       ap be (chunk_inside p' 0 head_size count_at 4 count_at refl (omega arith) ∙ (ap (λ t. chunk t count_at 4) head_is
@@ -132,7 +132,7 @@ module _ (l : Limits) (p vs : List ℕ) (good : GoodPage l p) (lp : length p ≡
       let s : content_of (put vs u (value_bytes v)) u (cost_of (length v) - check_size) ≡ sound v = content_new vs u v (cost_of (length v) - check_size) (omega arith) (omega arith) in
       ap (λ t. row_of w t vs') row_last ∙ rw (a, b, o, q, s)
 
-  rows_new : first_rows w p' vs' (c + 1) ≡ first_rows w p vs c ++ new_row label k v ∷ []
+  pub rows_new : first_rows w p' vs' (c + 1) ≡ first_rows w p vs c ++ new_row label k v ∷ []
   rows_new =
       let f : ℕ → Row = λ r. row_of w (row_at w p' r) vs' in
       let g : ℕ → Row = λ r. row_of w (row_at w p r) vs in
@@ -166,7 +166,7 @@ module _ (l : Limits) (p vs : List ℕ) (good : GoodPage l p) (lp : length p ≡
         room = omega (arith, g.room);
       }
 
-  good_new : GoodPage l p'
+  pub good_new : GoodPage l p'
   good_new = record {
     few = omega (arith, count_new);
     free = λ q. absurd (omega (arith, count_new));

@@ -29,7 +29,7 @@ accepted_sound l es vs b e =
     let z = laid_is l es (length vs) a.0 in
     well_sound (offered l es vs) (sure_well (offered l es vs) z (omega (arith, a.0.values)) a.1 (λ s h c. (omega arith, start_below l es z b s h))) a.0
 
-made_sound : (l : Limits) (es vs : List ℕ) → ((i : ℕ) → get_or es i 0 < 256) → is_sound (mounted l es vs) ≡ true
+pub made_sound : (l : Limits) (es vs : List ℕ) → ((i : ℕ) → get_or es i 0 < 256) → is_sound (mounted l es vs) ≡ true
 unfolding mounted
 made_sound l es vs b = by (mount_fault l es vs) refl
   where

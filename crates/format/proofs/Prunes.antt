@@ -60,9 +60,19 @@ module _ (l : Limits) (es : List ℕ) (z : Laid l es) (min : ℕ) where
   swept zero h = record { same = refl; ahead = λ s q. refl; each = λ s q. absurd (omega arith) }
   swept (suc n) h = ⊎_elim (more_yes n (omega arith) (swept n (omega arith))) (more_no n (swept n (omega arith))) (cases_Bool (below l es min n))
 
+  pub laid_on : (n : ℕ) → n ≤ l.slots → (xs : List ℕ) → xs ≡ pruned_entries l es min n → Laid l xs
+  laid_on n h xs e = record { small = z.small; long = omega (arith, z.long, (swept n h).same, ap length e) }
+
   -- What a step reads is what stood there before.
-  below_same : (n : ℕ) → n < l.slots → below l (pruned_entries l es min n) min n ≡ below l es min n
-  below_same n h = ap (λ p. goes min (count_of p) (start_of p)) ((swept n (omega arith)).ahead n (omega arith))
+  pub below_same : (n : ℕ) → n < l.slots → (xs : List ℕ) → xs ≡ pruned_entries l es min n → below l xs min n ≡ below l es min n
+  below_same n h xs e = ap (λ q. goes min (count_of (page l q n)) (start_of (page l q n))) e ∙ ap (λ p. goes min (count_of p) (start_of p)) ((swept n (omega arith)).ahead n (omega arith))
+
+  pub pruned_more : (n : ℕ) → n < l.slots → (xs ys : List ℕ) → xs ≡ pruned_entries l es min n → ys ≡ freed (below l xs min n) l xs n → ys ≡ pruned_entries l es min (n + 1)
+  pruned_more n h xs ys e f =
+      f ∙ (ap₂ (λ (b : Bool) (q : List ℕ). freed b l q n) (below_same n h xs e) e ∙ ap (pruned_entries l es min) (sym (add-one n)))
+
+  pub gone_more : (n : ℕ) (a b : Bool) → a ≡ gone_below l es min n → b ≡ below l es min n → (a || b) ≡ gone_below l es min (n + 1)
+  gone_more n a b e f = ap₂ (λ x y. x || y) e f ∙ ap (gone_below l es min) (sym (add-one n))
 
 -- One step of the loop, from the bytes w as the steps before it left them to the bytes x.
 pub one_more : (v : View) → Laid v.limits v.entries → (min n : ℕ) → n < v.limits.slots → (w x : View)
@@ -70,7 +80,7 @@ pub one_more : (v : View) → Laid v.limits v.entries → (min n : ℕ) → n < 
     → x ≡ record w { entries = freed (below w.limits w.entries min n) w.limits w.entries n }
     → (below w.limits w.entries min n ≡ below v.limits v.entries min n) × (x ≡ record v { entries = pruned_entries v.limits v.entries min (n + 1) })
 one_more v z min n h w x e f =
-    let same = below_same v.limits v.entries z min n h in (
+    let same = below_same v.limits v.entries z min n h (pruned_entries v.limits v.entries min n) refl in (
       ap (λ (y : View). below y.limits y.entries min n) e ∙ same,
       f ∙ (ap (λ (y : View). record y { entries = freed (below y.limits y.entries min n) y.limits y.entries n }) e
           ∙ (ap (λ (b : Bool). record v { entries = freed b v.limits (pruned_entries v.limits v.entries min n) n }) same

@@ -48,7 +48,7 @@ pub length_vals : (v : View) → Well v → (t : ℕ) → t < v.limits.slots →
 length_vals v w t ht = length_chunk v.values (t * v.limits.bytes) v.limits.bytes (vals_ends v w t ht)
 
 -- Well again after a change of the slot t: each other page as before, and the new page good, with a start that no other has.
-well_changed : (v v' : View) (t : ℕ) → Well v → v'.limits ≡ v.limits → v'.floor ≡ v.floor → length v'.entries ≡ length v.entries → length v'.values ≡ length v.values
+pub well_changed : (v v' : View) (t : ℕ) → Well v → v'.limits ≡ v.limits → v'.floor ≡ v.floor → length v'.entries ≡ length v.entries → length v'.values ≡ length v.values
     → GoodPage v.limits (page_in v' t) → ((s : ℕ) → (s ≡ t → ⊥) → page_in v' s ≡ page_in v s)
     → (0 < count_in v' t → (v.floor ≤ start_in v' t) × (start_in v' t < 2 ^ 64) × ((s : ℕ) → s < v.limits.slots → (s ≡ t → ⊥) → 0 < count_in v s → start_in v s ≡ start_in v' t → ⊥)) → Well v'
 well_changed v v' t w el ef ee ev good old new =
@@ -129,13 +129,13 @@ module _ (v : View) (well : Well v) (t : ℕ) (ht : t < v.limits.slots) (start :
   head_place : page_place l t ≡ t * size + 0
   head_place = omega arith
 
-  length_entries : length v'.entries ≡ length v.entries
+  pub length_entries : length v'.entries ≡ length v.entries
   length_entries = length_slot_put size mid v.limits.slots t mid_long ht 0 (page_place l t) head head_place head_fit ∙ length_mid
 
   value_fit : u + length (value_bytes x) ≤ v.limits.bytes
   value_fit = omega (arith, length_value_bytes x)
 
-  length_values : length v'.values ≡ length v.values
+  pub length_values : length v'.values ≡ length v.values
   length_values = length_slot_put v.limits.bytes v.values v.limits.slots t well.long ht u (t * v.limits.bytes + u) (value_bytes x) refl value_fit
 
   page_new : page_in v' t ≡ grown_page v.limits.width (page_in v t) c start label k u (cost_of (length x))
@@ -166,13 +166,13 @@ module _ (v : View) (well : Well v) (t : ℕ) (ht : t < v.limits.slots) (start :
   page_grown : Grown v.limits (page_in v t) (vals_in v t) (well.pages t ht) long_page (length_vals v well t ht) start label k x lk c refl room rows_small u refl fits bytes_small ns nn
   page_grown = grown v.limits (page_in v t) (vals_in v t) (well.pages t ht) long_page (length_vals v well t ht) start label k x lk c refl room rows_small u refl fits bytes_small ns nn
 
-  section_new : pages_in v' t ≡ record { start = start; rows = (pages_in v t).rows ++ new_row label k x ∷ [] }
+  pub section_new : pages_in v' t ≡ record { start = start; rows = (pages_in v t).rows ++ new_row label k x ∷ [] }
   section_new =
       ap₂ (section_of v.limits.width) page_new vals_new
       ∙ section_path page_grown.begins
       (ap (first_rows v.limits.width (grown_page v.limits.width (page_in v t) c start label k u (cost_of (length x))) (put (vals_in v t) u (value_bytes x))) page_grown.counts ∙ page_grown.holds)
 
-  section_old : (s : ℕ) → (s ≡ t → ⊥) → pages_in v' s ≡ pages_in v s
+  pub section_old : (s : ℕ) → (s ≡ t → ⊥) → pages_in v' s ≡ pages_in v s
   section_old s ne = ap₂ (section_of v.limits.width) (page_old s ne) (vals_old s ne)
 
   start_stored : start_in v' t ≡ start

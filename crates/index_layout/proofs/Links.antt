@@ -9,7 +9,7 @@
 --   link_linked              a link is that of the place it names
 --   walk_from, walk_on       a search begins, and goes one step on
 --   linked_none, -some       what a link is whose place is known
-use Rattle.std.proofs.Common.{◌≡◌, ℕ, zero, suc, ◌+◌, ◌<◌, ◌≤◌, cond, eqb, List, [], ◌∷◌, ◌++◌, length, get_or, set, Some, None, Option, sym, refl, ap, ◌∙◌, inl, inr, add-one, arith, get_or-set_other, get_or-set_same}
+use Rattle.std.proofs.Common.{◌≡◌, ℕ, zero, suc, ◌+◌, ◌<◌, ◌≤◌, cond, ◌&&◌, eqb, List, [], ◌∷◌, ◌++◌, length, get_or, set, Some, None, Option, sym, refl, ap, ◌∙◌, inl, inr, add-one, arith, get_or-set_other, get_or-set_same}
 use Rattle.std.proofs.lemmas.List.{get_or_append_left, get_or_push}
 use Rattle.std.proofs.lemmas.Bool.{eq-eqb, ne_eqb, cases_eq, cond-true, cond-false, cond_both, cases_Bool, eqb-true}
 use Rattle.index_layout.specs.Links.{latest, link, linked, matching}
@@ -41,7 +41,7 @@ latest_fix xs v (suc n) =
       | inr f ↦ simp f (latest_fix xs v n)
     ]
 
-at_link : (xs : List ℕ) (v q : ℕ) → latest xs v (suc q) ≡ suc q → get_or xs q 0 ≡ v
+pub at_link : (xs : List ℕ) (v q : ℕ) → latest xs v (suc q) ≡ suc q → get_or xs q 0 ≡ v
 at_link xs v q h =
     elim (cases_Bool (eqb (get_or xs q 0) v)) [
       | inl t ↦ eqb-true _ _ t
@@ -81,6 +81,12 @@ matching_latest xs ys v w (suc n) =
       | inl t ↦ simp t
       | inr f ↦ simp f (matching_latest xs ys v w n)
     ]
+
+pub matching_le : (xs ys : List ℕ) (v w n : ℕ) → matching xs ys v w n ≤ n
+matching_le xs ys v w zero = omega arith
+matching_le xs ys v w (suc n) =
+    let f = matching_le xs ys v w n in
+    cond_both (eqb (get_or xs n 0) v && eqb (get_or ys n 0) w) (suc n) (matching xs ys v w n) (λ x. x ≤ suc n) (λ _. omega arith) (λ _. omega arith)
 
 pub matching_here : (xs ys : List ℕ) (v w q : ℕ) → latest xs v (suc q) ≡ suc q → get_or ys q 0 ≡ w → matching xs ys v w (suc q) ≡ suc q
 matching_here xs ys v w q hq e =

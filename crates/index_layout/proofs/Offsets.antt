@@ -194,6 +194,24 @@ following_within xs p (suc n) = by (following_within xs p n)
         (λ t. let l = ltb-true p n (and_parts _ _ t).0 in inr (omega arith, omega arith)) (λ _. inl refl))
         (λ _. more again)
 
+-- An offset has a first position just where it has a last one.
+pub earliest_latest : (xs : List ℕ) (v n : ℕ) → eqb (earliest xs v n) 0 ≡ eqb (latest xs v n) 0
+earliest_latest xs v zero = refl
+earliest_latest xs v (suc n) = by (cases_Bool (eqb (get_or xs n 0) v)) (cases_Bool (eqb (earliest xs v n) 0)) (earliest_latest xs v n)
+  where
+    by : (eqb (get_or xs n 0) v ≡ true) ⊎ (eqb (get_or xs n 0) v ≡ false) → (eqb (earliest xs v n) 0 ≡ true) ⊎ (eqb (earliest xs v n) 0 ≡ false)
+        → eqb (earliest xs v n) 0 ≡ eqb (latest xs v n) 0 → eqb (earliest xs v (suc n)) 0 ≡ eqb (latest xs v (suc n)) 0
+    by (inl t) (inl z) again = simp (t, z)
+    by (inl t) (inr z) again = let s : eqb (suc n) 0 ≡ false = ne_eqb (suc n) 0 (λ e. omega arith) in simp (t, z, s)
+    by (inr f) (inl z) again = simp (f, z) (sym z ∙ again)
+    by (inr f) (inr z) again = simp (f, z) (sym z ∙ again)
+
+earliest_none : (xs : List ℕ) (v n : ℕ) → latest xs v n ≡ 0 → earliest xs v n ≡ 0
+earliest_none xs v n z = eqb-true _ _ (earliest_latest xs v n ∙ eq-eqb _ _ z)
+
+earliest_some : (xs : List ℕ) (v n q : ℕ) → latest xs v n ≡ q + 1 → eqb (earliest xs v n) 0 ≡ false
+earliest_some xs v n q z = earliest_latest xs v n ∙ ne_eqb _ _ (λ e. omega (arith, e, z))
+
 pub first_within : (xs : List ℕ) (v n m : ℕ) (r : Option ℕ) → n ≤ m → r ≡ linked (earliest xs v n) → IfSome r (λ p. p < m)
 first_within xs v n m r h e = subst (λ o. IfSome o (λ p. p < m)) (sym e) (by (earliest xs v n) (earliest_le xs v n))
   where

@@ -56,7 +56,7 @@ apart_open f xs i s y h e none apart =
     subst Apart (sym (put_view f xs i y _ e)) (apart_opened (map f xs) i s (omega arith) (λ k l. none k (omega arith)) apart)
 
 -- What a strike by a minimum makes of a slot, and what it counts there.
-weighs : (m : ℕ) (h : View → ℕ) (v : View) → weight (under m h) v ≡ cond (goes m v) (h v) 0
+pub weighs : (m : ℕ) (h : View → ℕ) (v : View) → weight (under m h) v ≡ cond (goes m v) (h v) 0
 weighs m h v = by v.used (ltb v.start m)
   where
     by : (a b : Bool) → cond a (cond b (h v) 0) 0 ≡ cond (a && b) (h v) 0
