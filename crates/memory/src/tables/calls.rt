@@ -2,6 +2,7 @@
 
 ghost use Rattle.std.specs.Prelude.{◌≡◌, length};
 ghost use Rattle.journal.specs.Making.{checked, made, empty};
+ghost use Rattle.journal.specs.Promises.{TellsLimits};
 ghost use Rattle.memory_layout.specs.View.{Well, meaning_of};
 ghost use Rattle.memory.specs.Start.{start_fault};
 
@@ -20,7 +21,11 @@ impl<'a> Journal for Memory<'a> {
 
     ghost fits = { λ _ t. Well t };
 
-    fn limits(&self) -> Limits {
+    // Of a memory that it is handed a proof learns here that its tables are right.
+    fn limits(&self) -> Limits
+        ensures promise { TellsLimits ⟦<Self as Journal>⟧.fits ⟦<Self as Journal>⟧.meaning self.now result }
+        ensures well { Well self.now }
+    {
         Limits {
             slots: self.slots as u64,
             rows: self.rows as u64,
