@@ -5,6 +5,7 @@
 pub mod handle;
 pub mod index;
 pub mod key_code;
+mod link;
 mod marks;
 mod row;
 mod row_table;

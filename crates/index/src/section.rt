@@ -5,6 +5,7 @@ ghost use Rattle.index.specs.Rows.{held, Linked};
 
 pub mod ops;
 
+use crate::link::Link;
 use crate::row::Ends;
 use crate::row_table::RowTable;
 
@@ -16,8 +17,8 @@ pub struct Section {
     /// Kept beside the tables, so that counting the numbers walks over nothing.
     distinct: usize,
     rows: RowTable,
-    numbers: [Option<Ends>; 64],
-    heads: [Option<u8>; 128],
+    numbers: [Ends; 64],
+    heads: [Link; 128],
     ghost few: { length (held rows) ≤ 128 },
     ghost linked: { Linked distinct (held rows) numbers heads },
 }

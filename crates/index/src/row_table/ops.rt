@@ -1,29 +1,11 @@
 // What the rows of a section do.
 
 ghost use Rattle.std.specs.Prelude.{◌≡◌, ◌+◌, ◌<◌, ◌≤◌, ◌++◌, ◌∷◌, [], length, IfSome, MatchOption, ◌==◌, slice_index_or};
-ghost use Rattle.index_layout.specs.Links.{link, linked};
 ghost use Rattle.index.specs.Rows.{blank, held, last_in, followed};
 
+use crate::link::Link;
 use crate::row::{Ends, Row};
 use crate::row_table::RowTable;
-
-/// A link as the table keeps it.
-fn byte_of(position: Option<u8>) -> u8
-    requires { IfSome position (λ p. p < 128) }
-    ensures { result ≡ link position }
-{
-    match position {
-        Some(p) => p + 1,
-        None => 0,
-    }
-}
-
-/// And read again.
-fn position_of(byte: u8) -> Option<u8>
-    ensures { result ≡ linked byte }
-{
-    byte.checked_sub(1)
-}
 
 impl RowTable {
     pub(crate) fn new() -> RowTable
@@ -33,8 +15,8 @@ impl RowTable {
             codes: [0; 128],
             offsets: [0; 128],
             buckets: [0; 128],
-            next: [0; 128],
-            below: [0; 128],
+            next: [Link::none(); 128],
+            below: [Link::none(); 128],
             count: 0,
         }
     }
@@ -63,8 +45,8 @@ impl RowTable {
             code: self.codes[at],
             offset: self.offsets[at],
             bucket: self.buckets[at],
-            next: position_of(self.next[at]),
-            below: position_of(self.below[at]),
+            next: self.next[at],
+            below: self.below[at],
         }
     }
 
@@ -82,8 +64,6 @@ impl RowTable {
     /// One row more at the end.
     pub(crate) fn push(&mut self, row: Row)
         requires room { length (held self.old) < 128 }
-        requires next { IfSome row.next (λ p. p < 128) }
-        requires below { IfSome row.below (λ p. p < 128) }
         ensures items { held self.new ≡ held self.old ++ row ∷ [] }
         ensures len { length (held self.new) ≡ length (held self.old) + 1 }
     {
@@ -91,19 +71,18 @@ impl RowTable {
         self.codes[at] = row.code;
         self.offsets[at] = row.offset;
         self.buckets[at] = row.bucket;
-        self.next[at] = byte_of(row.next);
-        self.below[at] = byte_of(row.below);
+        self.next[at] = row.next;
+        self.below[at] = row.below;
         self.count = at + 1;
     }
 
     /// Lets the last row of a number lead on to the next.
-    pub(crate) fn follow(&mut self, ends: Option<Ends>, next: u8)
-        requires last { IfSome ends (λ e. e.last < length (held self.old)) }
-        requires next { next < 128 }
+    pub(crate) fn follow(&mut self, ends: Ends, next: Link)
+        requires { IfSome (last_in ends) (λ p. p < length (held self.old)) }
         ensures { held self.new ≡ followed (held self.old) (last_in ends) next }
     {
-        if let Some(ends) = ends {
-            self.next[ends.last as usize] = next + 1;
+        if let Some(last) = ends.last.position() {
+            self.next[last as usize] = next;
         }
     }
 }

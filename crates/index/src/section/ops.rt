@@ -4,11 +4,12 @@ ghost use Rattle.std.specs.Prelude.{◌≡◌, ℕ, ◌+◌, ◌-◌, ◌%◌, �
 ghost use Rattle.index_layout.specs.Links.{latest, link, linked, matching};
 ghost use Rattle.index_layout.specs.Views.{open_view, grown, takes, goes, bucket_of, first_in, next_in, newest_in, older_in};
 ghost use Rattle.index_layout.specs.Held.{holds, numbers, records};
-ghost use Rattle.index.specs.Rows.{held, buckets_of, codes_of, Leads};
+ghost use Rattle.index.specs.Rows.{held, named, buckets_of, codes_of, Leads};
 ghost use Rattle.index_layout.specs.Candidates.{has_candidate, reaches};
 ghost use Rattle.index.specs.Viewed.{viewed};
 
 use crate::key_code::KeyCode;
+use crate::link::Link;
 use crate::row::{Ends, Row};
 use crate::row_table::RowTable;
 use crate::section::{NoRoom, Section};
@@ -18,12 +19,16 @@ impl Section {
     pub fn open(start: u64) -> Section
         ensures { viewed result ≡ open_view start }
     {
+        let none = Link::none();
         Section {
             start,
             distinct: 0,
             rows: RowTable::new(),
-            numbers: [None; 64],
-            heads: [None; 128],
+            numbers: [Ends {
+                first: none,
+                last: none,
+            }; 64],
+            heads: [none; 128],
         }
     }
 
@@ -78,21 +83,21 @@ impl Section {
         if offset >= 64 || self.rows.is_full() {
             return Err(NoRoom);
         }
-        let at = self.rows.len() as u8;
+        let last = Link::to(self.rows.len() as u8);
         let number = offset as usize;
         let bucket = key.bucket();
         self.rows.push(Row {
             code: key.code,
             offset: offset as u8,
             bucket,
-            next: None,
+            next: Link::none(),
             below: self.heads[bucket as usize],
         });
-        self.heads[bucket as usize] = Some(at);
+        self.heads[bucket as usize] = last;
         let ends = self.numbers[number];
-        self.rows.follow(ends, at);
-        self.numbers[number] = Some(Ends::extended(ends, at));
-        self.distinct += usize::from(ends.is_none());
+        self.rows.follow(ends, last);
+        self.numbers[number] = ends.extended(last);
+        self.distinct += usize::from(ends.first.is_none());
         Ok(())
     }
 
@@ -101,8 +106,9 @@ impl Section {
         ensures is { result ≡ first_in (viewed self.now) offset }
         ensures within { IfSome result (λ p. p < 128) }
     {
-        let ends = (*self.numbers.get(offset as usize)?)?;
-        Some(u64::from(ends.first))
+        let ends = self.numbers.get(offset as usize)?;
+        let first = ends.first.position()?;
+        Some(u64::from(first))
     }
 
     /// The next position with the offset of one.
@@ -110,25 +116,25 @@ impl Section {
         ensures is { result ≡ next_in (viewed self.now) position }
         ensures within { IfSome result (λ p. (position < p) × (p < 128)) }
     {
-        self.rows.get(position)?.next.map(u64::from)
+        self.rows.get(position)?.next.position().map(u64::from)
     }
 
-    /// The newest record with this translated key in the chain of a bucket, from a position on.
-    fn matched(&self, from: Option<u8>, bucket: u8, code: u64) -> Option<u64>
-        requires { Leads (held self.now.rows) bucket from }
-        ensures is { result ≡ linked (matching (buckets_of (held self.now.rows)) (codes_of (held self.now.rows)) bucket code (link from)) }
-        ensures before { IfSome result (λ p. p < link from) }
+    /// The newest record with this translated key in the chain of a bucket, from a link on.
+    fn matched(&self, from: Link, bucket: u8, code: u64) -> Option<u64>
+        requires { Leads (held self.now.rows) bucket (named from) }
+        ensures is { result ≡ linked (matching (buckets_of (held self.now.rows)) (codes_of (held self.now.rows)) bucket code (link (named from))) }
+        ensures before { IfSome result (λ p. p < link (named from)) }
     {
-        let mut at = from;
-        // Along links, each to a lower position: nothing is counted to.
-        while let Some(position) = at {
-            let row = self.rows.row(position);
+        let mut at = from.position()?;
+        // Along links, each to a lower position: nothing is counted to. A turn carries the position and not the link, which would
+        // cost a few instructions more.
+        loop {
+            let row = self.rows.row(at);
             if row.code == code {
-                return Some(u64::from(position));
+                return Some(u64::from(at));
             }
-            at = row.below;
+            at = row.below.position()?;
         }
-        None
     }
 
     /// The newest record with this translated key and hash.

@@ -1,7 +1,5 @@
-use Rattle.std.proofs.Common.{sym, ap₂, ◌∙◌, arith, ◌<◌, Option, ℕ}
-use Rattle.std.specs.Prelude.{slice_index}
+use Rattle.std.proofs.Common.{sym, arith, ◌<◌}
 use Rattle.index.proofs.Columns.{rows_length, rows_at}
-use Rattle.index.specs.declared.row.Row.{Row}
 use Rattle.index.specs.Rows.{blank, columns_of}
 use Rattle.index.proofs.row_table.RowTable.row.Goals as goal
 
@@ -25,5 +23,4 @@ returns c =
     let s = c.args.self.now in
     let p = c.args.position in
     let low : p < s.count = omega (arith, c.requires, rows_length (columns_of s) s.count) in
-    let row : Option ℕ → Option ℕ → Row = λ a b. record { code = slice_index s.codes p; offset = slice_index s.offsets p; bucket = slice_index s.buckets p; next = a; below = b } in
-    ap₂ row c.position_of.ensures c.position_of-2.ensures ∙ sym (rows_at (columns_of s) s.count p blank low)
+    sym (rows_at (columns_of s) s.count p blank low)
